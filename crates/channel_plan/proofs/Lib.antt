@@ -1,0 +1,7 @@
+pub mod Cuts
+pub mod Loading
+pub mod Outcomes
+pub mod Owners
+pub mod Plain
+pub mod Sharing
+pub mod Tables

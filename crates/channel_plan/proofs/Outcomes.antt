@@ -1,0 +1,16 @@
+-- What an answer tells of the outcome behind it.
+use Prim.Native.Nat.{ℕ}
+use mathlib.Core.Path.{_≡_, refl, sym, ap}
+use native.Mathlib.Omega.{arith}
+use Rattle.std.specs.declared.result.Result.{Result}
+use Rattle.std.specs.declared.result.Result.the-variants.{Ok, Err}
+use Rattle.channel_plan.specs.Outcomes.{answer, left}
+
+module _ {X E : Type 0} where
+  pub was-ok : (o : Result X E) (old : X) → Ok tt ≡ answer o → o ≡ Ok (left o old)
+  was-ok (Ok x) old p = refl
+  was-ok (Err e) old p = let z : _≡_ {A = ℕ} 0 1 = cc in absurd (omega arith)
+
+  pub was-err : (o : Result X E) (e : E) → Err e ≡ answer o → o ≡ Err e
+  was-err (Ok x) e p = let z : _≡_ {A = ℕ} 0 1 = cc in absurd (omega arith)
+  was-err (Err f) e p = let same : f ≡ e = cc in ap Err same

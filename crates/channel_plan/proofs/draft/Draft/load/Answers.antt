@@ -1,0 +1,45 @@
+use mathlib.Core.Path.{sym, ap, _∙_}
+use native.Mathlib.Omega.{arith}
+use borrow.Author.Needs.{needs}
+use Rattle.channel_plan.specs.Files.{withFile}
+use Rattle.channel_plan.specs.Outcomes.{answer, left}
+use Rattle.channel_plan.proofs.Cuts.{length-split}
+use Rattle.channel_plan.proofs.Loading.{file-long, file-open, file-empty, file-named, file-lines}
+use Rattle.channel_plan.proofs.Outcomes.{was-err}
+use Rattle.channel_plan.proofs.draft.Draft.load.Needs as need
+
+pub returns-then-file-gt-MAX-FILE : need.returns-then-file-gt-MAX-FILE
+returns-then-file-gt-MAX-FILE c =
+    let is = file-long (c .args .self .now .table) (c .args .file .now) (search needs) in
+    search needs
+
+pub returns-then-not-ended : need.returns-then-not-ended
+returns-then-not-ended c =
+    let is = file-open (c .args .self .now .table) (c .args .file .now) (search needs) (search needs) in
+    search needs
+
+pub returns-in-rest : need.returns-in-rest
+returns-in-rest c =
+    let is = file-empty (c .args .self .now .table) (c .args .file .now) (search needs) (search needs) (c .in-rest .ensures tt) in
+    search needs
+
+pub returns-in-rest-read : need.returns-in-rest-read
+returns-in-rest-read c =
+    let is = file-named (c .args .self .now .table) (c .args .file .now) (search needs) (search needs) _ _ (c .in-Some .ensures tt) in
+    search needs
+
+pub add-lines-requires : need.add-lines-requires
+add-lines-requires c κs = omega (arith, length-split 10 (c .args .file .now) _ _ (c .in-Some .ensures tt))
+
+pub returns-in-Ok : need.returns-in-Ok
+returns-in-Ok c =
+    let t = c .args .self .now .table in
+    let all = file-lines t (c .args .file .now) (search needs) (search needs) _ _ (c .in-Some-read .header) (c .in-Some .ensures tt) (c .in-Some-read .ensures tt) in
+    record { answer = c .in-Ok .ensures tt .answer ∙ ap answer (sym all); left = c .in-Ok .ensures tt .left ∙ ap (λ o. left o t) (sym all) }
+
+pub returns-in-Err : need.returns-in-Err
+returns-in-Err c =
+    let t = c .args .self .now .table in
+    let all = file-lines t (c .args .file .now) (search needs) (search needs) _ _ (c .in-Some-read .header) (c .in-Some .ensures tt) (c .in-Some-read .ensures tt) in
+    let says = c .in-Err .ensures tt .answer ∙ ap answer (sym all) in
+    record { answer = says; left = sym (ap (λ o. left o t) (was-err (withFile t (c .args .file .now)) (c .in-Err .refusal) says)) }

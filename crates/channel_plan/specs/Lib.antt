@@ -1,0 +1,10 @@
+pub mod Adding
+pub mod Files
+pub mod Headers
+pub mod Numbers
+pub mod Outcomes
+pub mod Pieces
+pub mod Rates
+pub mod Refusals
+pub mod Rows
+pub mod Tables

@@ -1,0 +1,19 @@
+// Channel plans: which channel owns which slot of the frame.
+pub mod draft;
+pub mod file;
+pub mod plan;
+mod header;
+pub mod rate;
+pub mod refusal;
+pub mod row;
+mod table;
+mod text;
+
+pub use draft::Draft;
+pub use plan::Plan;
+pub use rate::Rate;
+pub use refusal::FileRefusal;
+pub use refusal::Reason;
+pub use refusal::RowRefusal;
+pub use row::Assignment;
+pub use row::Row;

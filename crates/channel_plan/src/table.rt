@@ -1,0 +1,65 @@
+// Questions to a table of rows: entry i is what channel i + 1 is assigned.
+ghost use mathlib.Core.Path.{_≡_};
+ghost use Rattle.channel_plan.specs.Adding.{conflict};
+ghost use Rattle.channel_plan.specs.Tables.{Owned, ownerFrom, rowAt};
+use crate::refusal::RowRefusal;
+use crate::row::Assignment;
+
+pub fn assigned_to(table: &[Option<Assignment>; 80], channel: u16) -> Option<Assignment>
+    ensures { λ r. ⌜ r ≡ rowAt (now (table .entry)) channel ⌝ }
+{
+    if channel == 0 || channel > 80 {
+        return None;
+    }
+    table[channel as usize - 1]
+}
+
+// Why the assignment cannot stand beside the rows, if it cannot.
+pub fn conflict_with(table: &[Option<Assignment>; 80], new: Assignment) -> Option<RowRefusal>
+    ensures { λ r. ⌜ r ≡ conflict (now (table .entry)) new ⌝ }
+{
+    let mut mixed = false;
+    let mut taken = false;
+    for row in table {
+        if let Some(other) = row {
+            if new.mixes(*other) {
+                mixed = true;
+            }
+            if new.shares(*other) {
+                taken = true;
+            }
+        }
+    }
+    if mixed {
+        Some(RowRefusal::GroupRate)
+    } else if taken {
+        Some(RowRefusal::SlotTaken)
+    } else {
+        None
+    }
+}
+
+// The lowest channel whose row owns the slot.
+pub fn owner_among(table: &[Option<Assignment>; 80], slot: u16) -> Option<u16>
+    ensures { λ r. ⌜ r ≡ ownerFrom 1 (now (table .entry)) slot ⌝ }
+{
+    let mut channel: u16 = 1;
+    for row in table {
+        if let Some(assignment) = row && assignment.owns(slot) {
+            return Some(channel);
+        }
+        channel += 1;
+    }
+    None
+}
+
+// The owner of each slot of the frame.
+pub fn owners_of(table: &[Option<Assignment>; 80]) -> [Option<u16>; 240]
+    ensures { λ r. ⌜ Owned (now (table .entry)) r ⌝ }
+{
+    let mut owners = [None; 240];
+    for slot in 0..240u16 {
+        owners[slot as usize] = owner_among(table, slot);
+    }
+    owners
+}
