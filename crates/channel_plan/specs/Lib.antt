@@ -1,6 +1,8 @@
 pub mod Adding
 pub mod Files
 pub mod Headers
+pub mod Iterating
+pub mod Listings
 pub mod Numbers
 pub mod Outcomes
 pub mod Pieces

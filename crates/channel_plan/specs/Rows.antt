@@ -1,5 +1,5 @@
 -- What a row of a plan gives to its channel.
-use Prim.Native.Nat.{ℕ, zero, suc, _%_, _/_}
+use Prim.Native.Nat.{ℕ, zero, suc, _%_}
 use mathlib.Core.Bool.{Bool, true, false, not, _&&_, _||_}
 use lib.Dec.{eqb, ltb}
 use Rattle.channel_plan.specs.declared.row.Assignment.{Assignment}
@@ -12,9 +12,6 @@ owns a s = eqb (s % period (a .rate)) (a .first)
 -- slots fall into five groups
 abbrev pub group : Assignment → ℕ
 group a = a .first % 5
-
-abbrev pub slots : Assignment → ℕ
-slots a = 240 / period (a .rate)
 
 -- two rates in one group
 abbrev pub mixes : Assignment → Assignment → Bool

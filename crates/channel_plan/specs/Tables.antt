@@ -1,10 +1,11 @@
 -- The rows of a plan as a table by channel, which channel owns a slot, and which rows may stand together.
 use Prim.Native.Nat.{ℕ, _+_, _-_, _%_, _<_}
 use mathlib.Core.Bool.{Bool, true, false, cond, not, _&&_, _||_}
-use mathlib.Core.List.{List, [], _∷_}
+use mathlib.Core.List.{List, [], _∷_, _++_}
 use mathlib.Core.Path.{_≡_}
 use lib.Dec.{eqb, ltb}
-use lib.ListN.{getD}
+use lib.ListN.{getD, drop}
+use Rattle.std.specs.Vec.{listOf}
 use Rattle.std.specs.declared.option.Option.{Option}
 use Rattle.std.specs.declared.option.Option.the-variants.{Some, None}
 use Rattle.channel_plan.specs.declared.row.Assignment.{Assignment}
@@ -30,6 +31,20 @@ asRow c (Some a) = Some (record { channel = c; rate = a .rate; first = a .first 
 -- the row of channel c
 abbrev pub rowOf : Table → ℕ → Option Row
 rowOf t c = asRow c (rowAt t c)
+
+-- the rows by rising channel, where the first entry is that of channel c
+abbrev pub rowsFrom : ℕ → Table → List Row
+rowsFrom c [] = []
+rowsFrom c (o ∷ t) = listOf (asRow c o) ++ rowsFrom (c + 1) t
+
+-- the rows of the channels above c
+abbrev pub rowsAfter : Table → ℕ → List Row
+rowsAfter t c = rowsFrom (c + 1) (drop c t)
+
+-- the next row after those of the channels up to c, if there is one
+abbrev pub NextRow : Table → ℕ → Option Row → Type 0
+NextRow t c None = rowsAfter t c ≡ []
+NextRow t c (Some r) = rowsAfter t c ≡ r ∷ rowsAfter t (r .channel)
 
 -- there is a row, and it passes the test
 abbrev pub passes : (Assignment → Bool) → Option Assignment → Bool

@@ -3,9 +3,11 @@ pub mod draft;
 pub mod file;
 pub mod plan;
 mod header;
+pub mod listing;
 pub mod rate;
 pub mod refusal;
 pub mod row;
+pub mod rows;
 mod table;
 mod text;
 
@@ -17,3 +19,4 @@ pub use refusal::Reason;
 pub use refusal::RowRefusal;
 pub use row::Assignment;
 pub use row::Row;
+pub use rows::Rows;

@@ -1,5 +1,6 @@
 // One channel's share of the frame.
 ghost use mathlib.Core.Path.{_≡_};
+ghost use Rattle.channel_plan.specs.Listings.{slotsOf};
 ghost use Rattle.channel_plan.specs.Rows.{group, liesIn, mixes, owns, shares};
 use crate::rate::Rate;
 use crate::rate::RatePartialEq;
@@ -17,6 +18,15 @@ pub struct Row {
     pub channel: u16,
     pub rate: Rate,
     pub first: u16,
+}
+
+impl Row {
+    // How many slots of a frame the channel has.
+    pub fn slots(&self) -> u16
+        ensures { λ r. ⌜ r ≡ slotsOf (now (self .entry)) ⌝ }
+    {
+        240 / self.rate.period()
+    }
 }
 
 impl Assignment {

@@ -1,9 +1,12 @@
 // Questions to a table of rows: entry i is what channel i + 1 is assigned.
+ghost use Prim.Native.Nat.{_<_, _≤_};
 ghost use mathlib.Core.Path.{_≡_};
+ghost use Rattle.std.specs.Options.{Cases};
 ghost use Rattle.channel_plan.specs.Adding.{conflict};
-ghost use Rattle.channel_plan.specs.Tables.{Owned, ownerFrom, rowAt};
+ghost use Rattle.channel_plan.specs.Tables.{NextRow, Owned, ownerFrom, rowAt};
 use crate::refusal::RowRefusal;
 use crate::row::Assignment;
+use crate::row::Row;
 
 pub fn assigned_to(table: &[Option<Assignment>; 80], channel: u16) -> Option<Assignment>
     ensures { λ r. ⌜ r ≡ rowAt (now (table .entry)) channel ⌝ }
@@ -62,4 +65,17 @@ pub fn owners_of(table: &[Option<Assignment>; 80]) -> [Option<u16>; 240]
         owners[slot as usize] = owner_among(table, slot);
     }
     owners
+}
+
+// The row of the lowest channel above this one.
+pub fn next_row(table: &[Option<Assignment>; 80], channel: u16) -> Option<Row>
+    ensures next { λ r. ⌜ NextRow (now (table .entry)) channel r ⌝ }
+    ensures above { λ r. ⌜ Cases r (Unit {0}) (λ row. (channel < row .channel) × (row .channel ≤ 80)) ⌝ }
+{
+    for seen in channel..80 {
+        if let Some(assignment) = table[seen as usize] {
+            return Some(Row { channel: seen + 1, rate: assignment.rate, first: assignment.first });
+        }
+    }
+    None
 }

@@ -1,7 +1,8 @@
 // Making a plan, and reading it.
-ghost use Prim.Native.Nat.{ℕ};
+ghost use Prim.Native.Nat.{ℕ, _<_, _≤_};
 ghost use mathlib.Core.Path.{_≡_};
-ghost use Rattle.channel_plan.specs.Tables.{OwnerIs, ownerOf, rowOf};
+ghost use Rattle.std.specs.Options.{Cases};
+ghost use Rattle.channel_plan.specs.Tables.{NextRow, OwnerIs, ownerOf, rowOf};
 use super::Plan;
 use crate::draft::Draft;
 use crate::row::Row;
@@ -35,5 +36,13 @@ impl Plan {
             Some(assignment) => Some(Row { channel, rate: assignment.rate, first: assignment.first }),
             None => None,
         }
+    }
+
+    // The row of the lowest channel above this one.
+    pub fn row_after(&self, channel: u16) -> Option<Row>
+        ensures next { λ r. ⌜ NextRow (now (self .entry) .table) channel r ⌝ }
+        ensures above { λ r. ⌜ Cases r (Unit {0}) (λ row. (channel < row .channel) × (row .channel ≤ 80)) ⌝ }
+    {
+        table::next_row(&self.table, channel)
     }
 }

@@ -1,0 +1,37 @@
+-- The listing of a plan, and how a refusal of a file is told, byte by byte.
+use Prim.Native.Nat.{ℕ, _+_, _/_}
+use mathlib.Core.List.{List, [], _∷_, _++_}
+use lib.Chars.{codes}
+use Rattle.std.specs.Written.{decimal}
+use Rattle.std.specs.declared.option.Option.{Option}
+use Rattle.std.specs.declared.option.Option.the-variants.{Some, None}
+use Rattle.std.specs.shelf.Lists.{joined}
+use Rattle.channel_plan.specs.declared.refusal.FileRefusal.{FileRefusal}
+use Rattle.channel_plan.specs.declared.row.Assignment.{Assignment}
+use Rattle.channel_plan.specs.declared.row.Row.{Row}
+use Rattle.channel_plan.specs.Rates.{bits, period}
+use Rattle.channel_plan.specs.Refusals.{fileNumber}
+use Rattle.channel_plan.specs.Tables.{Table, rowsAfter}
+
+-- how many slots of a frame a channel of this row has
+abbrev pub slotsOf : Row → ℕ
+slotsOf r = 240 / period (r .rate)
+
+-- a row, as the listing prints it
+abbrev pub rowText : Row → List ℕ
+rowText r =
+    decimal (r .channel)
+    ++ (codes "," ++ (decimal (bits (r .rate)) ++ (codes "," ++ (decimal (r .first) ++ (codes "," ++ decimal (slotsOf r))))))
+
+-- a refusal of a file, as it is printed
+abbrev pub refusalText : FileRefusal → List ℕ
+refusalText r =
+    codes "refused " ++ (decimal (fileNumber (r .reason)) ++ (codes " line " ++ (decimal (r .line) ++ (codes " byte " ++ decimal (r .byte)))))
+
+-- rows, a line each
+abbrev pub rowLines : List Row → List ℕ
+rowLines rs = joined (λ r. rowText r ++ codes "\n") rs
+
+-- the listing of a plan: a line of names, and a line for each row by rising channel
+unfoldable pub listing : Table → List ℕ
+listing t = codes "channel,rate,first,slots\n" ++ rowLines (rowsAfter t 0)
