@@ -1,3 +1,5 @@
+pub mod Accepting
+pub mod Counting
 pub mod Cuts
 pub mod Loading
 pub mod Outcomes

@@ -37,7 +37,7 @@ nested Bps750 Bps6000 s h = omega arith
 nested Bps750 Bps3000 s h = omega arith
 nested Bps750 Bps750 s h = omega arith
 
-period-range : (r : Rate) → (0 < period r) × (period r ≤ 80)
+pub period-range : (r : Rate) → (0 < period r) × (period r ≤ 80)
 period-range Bps12000 = (omega arith, omega arith)
 period-range Bps6000 = (omega arith, omega arith)
 period-range Bps3000 = (omega arith, omega arith)

@@ -2,6 +2,7 @@ pub mod Adding
 pub mod Files
 pub mod Headers
 pub mod Iterating
+pub mod Laws
 pub mod Listings
 pub mod Numbers
 pub mod Outcomes

@@ -1,5 +1,5 @@
 -- The listing of a plan, and how a refusal of a file is told, byte by byte.
-use Prim.Native.Nat.{ℕ, _+_, _/_}
+use Prim.Native.Nat.{ℕ}
 use mathlib.Core.List.{List, [], _∷_, _++_}
 use lib.Chars.{codes}
 use Rattle.std.specs.Written.{decimal}
@@ -9,19 +9,19 @@ use Rattle.std.specs.shelf.Lists.{joined}
 use Rattle.channel_plan.specs.declared.refusal.FileRefusal.{FileRefusal}
 use Rattle.channel_plan.specs.declared.row.Assignment.{Assignment}
 use Rattle.channel_plan.specs.declared.row.Row.{Row}
-use Rattle.channel_plan.specs.Rates.{bits, period}
+use Rattle.channel_plan.specs.Rates.{bits}
 use Rattle.channel_plan.specs.Refusals.{fileNumber}
+use Rattle.channel_plan.specs.Rows.{slots}
 use Rattle.channel_plan.specs.Tables.{Table, rowsAfter}
 
--- how many slots of a frame a channel of this row has
-abbrev pub slotsOf : Row → ℕ
-slotsOf r = 240 / period (r .rate)
+abbrev pub assignment : Row → Assignment
+assignment r = record { rate = r .rate; first = r .first }
 
 -- a row, as the listing prints it
 abbrev pub rowText : Row → List ℕ
 rowText r =
     decimal (r .channel)
-    ++ (codes "," ++ (decimal (bits (r .rate)) ++ (codes "," ++ (decimal (r .first) ++ (codes "," ++ decimal (slotsOf r))))))
+    ++ (codes "," ++ (decimal (bits (r .rate)) ++ (codes "," ++ (decimal (r .first) ++ (codes "," ++ decimal (slots (assignment r)))))))
 
 -- a refusal of a file, as it is printed
 abbrev pub refusalText : FileRefusal → List ℕ

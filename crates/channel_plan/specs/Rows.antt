@@ -1,6 +1,6 @@
 -- What a row of a plan gives to its channel.
-use Prim.Native.Nat.{ℕ, zero, suc, _%_}
-use mathlib.Core.Bool.{Bool, true, false, not, _&&_, _||_}
+use Prim.Native.Nat.{ℕ, zero, suc, _+_, _%_}
+use mathlib.Core.Bool.{Bool, true, false, cond, not, _&&_, _||_}
 use lib.Dec.{eqb, ltb}
 use Rattle.channel_plan.specs.declared.row.Assignment.{Assignment}
 use Rattle.channel_plan.specs.Rates.{period, same}
@@ -21,6 +21,15 @@ mixes a b = eqb (group a) (group b) && not (same (a .rate) (b .rate))
 abbrev pub someBelow : (ℕ → Bool) → ℕ → Bool
 someBelow p zero = false
 someBelow p (suc n) = p n || someBelow p n
+
+-- how many numbers below n pass the test
+abbrev pub countBelow : (ℕ → Bool) → ℕ → ℕ
+countBelow p zero = 0
+countBelow p (suc n) = cond (p n) 1 0 + countBelow p n
+
+-- how many slots of the frame it gives
+unfoldable pub slots : Assignment → ℕ
+slots a = countBelow (owns a) 240
 
 -- some slot of the frame goes to both
 unfoldable pub shares : Assignment → Assignment → Bool

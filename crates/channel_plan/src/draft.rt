@@ -1,4 +1,6 @@
 // A plan in the making.
+ghost use mathlib.Core.Path.{_≡_};
+ghost use lib.ListN.{length};
 ghost use Rattle.channel_plan.specs.Tables.{Below, OneRate, Apart};
 use crate::row::Assignment;
 
@@ -9,6 +11,7 @@ pub struct Draft {
     ghost below: { Below table },
     ghost oneRate: { OneRate table },
     ghost apart: { Apart table },
+    ghost long: { length table ≡ 80 },
 }
 
 mod rows;

@@ -14,7 +14,7 @@ pub impl fmt::Display for Row as RowDisplay {
         let channel = self.channel;
         let bits = self.rate.bits();
         let first = self.first;
-        let slots = self.slots();
+        let slots = self.assignment().slots();
         write!(f, "{channel},{bits},{first},{slots}")
     }
 }

@@ -1,7 +1,7 @@
 // One channel's share of the frame.
 ghost use mathlib.Core.Path.{_≡_};
-ghost use Rattle.channel_plan.specs.Listings.{slotsOf};
-ghost use Rattle.channel_plan.specs.Rows.{group, liesIn, mixes, owns, shares};
+ghost use Rattle.channel_plan.specs.Listings.{assignment};
+ghost use Rattle.channel_plan.specs.Rows.{group, liesIn, mixes, owns, shares, slots};
 use crate::rate::Rate;
 use crate::rate::RatePartialEq;
 
@@ -21,11 +21,11 @@ pub struct Row {
 }
 
 impl Row {
-    // How many slots of a frame the channel has.
-    pub fn slots(&self) -> u16
-        ensures { λ r. ⌜ r ≡ slotsOf (now (self .entry)) ⌝ }
+    // What it assigns to its channel.
+    pub fn assignment(&self) -> Assignment
+        ensures { λ r. ⌜ r ≡ assignment (now (self .entry)) ⌝ }
     {
-        240 / self.rate.period()
+        Assignment { rate: self.rate, first: self.first }
     }
 }
 
@@ -66,5 +66,13 @@ impl Assignment {
         ensures { λ r. ⌜ r ≡ liesIn self other ⌝ }
     {
         self.first < self.rate.period() && other.owns(self.first)
+    }
+
+    // How many slots of the frame it gives.
+    pub fn slots(self) -> u16
+        ensures { λ r. ⌜ r ≡ slots self ⌝ }
+    {
+        let period = self.rate.period();
+        if self.first < period { 240 / period } else { 0 }
     }
 }

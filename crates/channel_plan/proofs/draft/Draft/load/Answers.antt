@@ -3,9 +3,11 @@ use native.Mathlib.Omega.{arith}
 use borrow.Author.Needs.{needs}
 use Rattle.channel_plan.specs.Files.{withFile}
 use Rattle.channel_plan.specs.Outcomes.{answer, left}
+use Rattle.std.specs.declared.result.Result.the-variants.{Ok}
+use Rattle.channel_plan.proofs.Accepting.{file-joins}
 use Rattle.channel_plan.proofs.Cuts.{length-split}
 use Rattle.channel_plan.proofs.Loading.{file-long, file-open, file-empty, file-named, file-lines}
-use Rattle.channel_plan.proofs.Outcomes.{was-err}
+use Rattle.channel_plan.proofs.Outcomes.{was-err, was-ok}
 use Rattle.channel_plan.proofs.draft.Draft.load.Needs as need
 
 pub returns-then-file-gt-MAX-FILE : need.returns-then-file-gt-MAX-FILE
@@ -35,11 +37,17 @@ pub returns-in-Ok : need.returns-in-Ok
 returns-in-Ok c =
     let t = c .args .self .now .table in
     let all = file-lines t (c .args .file .now) (search needs) (search needs) _ _ (c .in-Some-read .header) (c .in-Some .ensures tt) (c .in-Some-read .ensures tt) in
-    record { answer = c .in-Ok .ensures tt .answer ∙ ap answer (sym all); left = c .in-Ok .ensures tt .left ∙ ap (λ o. left o t) (sym all) }
+    let u = c .add-lines .last .self .table in
+    let by-lines = was-ok _ t (c .in-Ok .ensures tt .answer) ∙ ap Ok (sym (c .in-Ok .ensures tt .left)) in
+    record {
+      answer = c .in-Ok .ensures tt .answer ∙ ap answer (sym all);
+      left = c .in-Ok .ensures tt .left ∙ ap (λ o. left o t) (sym all);
+      rows = file-joins t u (c .args .file .now) _ _ (c .in-Some-read .header) (c .args .self .now .long) (c .in-Some .ensures tt) (c .in-Some-read .ensures tt) by-lines;
+    }
 
 pub returns-in-Err : need.returns-in-Err
 returns-in-Err c =
     let t = c .args .self .now .table in
     let all = file-lines t (c .args .file .now) (search needs) (search needs) _ _ (c .in-Some-read .header) (c .in-Some .ensures tt) (c .in-Some-read .ensures tt) in
     let says = c .in-Err .ensures tt .answer ∙ ap answer (sym all) in
-    record { answer = says; left = sym (ap (λ o. left o t) (was-err (withFile t (c .args .file .now)) (c .in-Err .refusal) says)) }
+    record { answer = says; left = sym (ap (λ o. left o t) (was-err (withFile t (c .args .file .now)) (c .in-Err .refusal) says)); rows = tt }
