@@ -6,5 +6,6 @@ pub mod Outcomes
 pub mod Owners
 pub mod Plain
 pub mod Printing
+pub mod Reporting
 pub mod Sharing
 pub mod Tables

@@ -2,13 +2,16 @@
 use Prim.Native.Nat.{ℕ}
 use mathlib.Core.List.{List, [], _∷_, _++_}
 use lib.Chars.{codes}
+use lib.ListN.{replicate}
 use Rattle.std.specs.Written.{decimal}
-use Rattle.std.specs.declared.option.Option.{Option}
-use Rattle.std.specs.declared.option.Option.the-variants.{Some, None}
+use Rattle.std.specs.declared.option.Option.the-variants.{None}
+use Rattle.std.specs.declared.result.Result.{Result}
+use Rattle.std.specs.declared.result.Result.the-variants.{Ok, Err}
 use Rattle.std.specs.shelf.Lists.{joined}
 use Rattle.channel_plan.specs.declared.refusal.FileRefusal.{FileRefusal}
 use Rattle.channel_plan.specs.declared.row.Assignment.{Assignment}
 use Rattle.channel_plan.specs.declared.row.Row.{Row}
+use Rattle.channel_plan.specs.Files.{withFile}
 use Rattle.channel_plan.specs.Rates.{bits}
 use Rattle.channel_plan.specs.Refusals.{fileNumber}
 use Rattle.channel_plan.specs.Rows.{slots}
@@ -35,3 +38,11 @@ rowLines rs = joined (λ r. rowText r ++ codes "\n") rs
 -- the listing of a plan: a line of names, and a line for each row by rising channel
 unfoldable pub listing : Table → List ℕ
 listing t = codes "channel,rate,first,slots\n" ++ rowLines (rowsAfter t 0)
+
+abbrev pub told : Result Table FileRefusal → List ℕ
+told (Ok t) = listing t
+told (Err e) = refusalText e ++ codes "\n"
+
+-- what is printed of a plan file: the listing of its plan, or its refusal
+abbrev pub report : List ℕ → List ℕ
+report file = told (withFile (replicate 80 None) file)
