@@ -15,8 +15,8 @@ use Rattle.std.specs.declared.result.Result.the-variants.{Ok, Err}
 use Rattle.std.proofs.shelf.Lists.{length-set}
 use Rattle.std.proofs.shelf.Tests.{eqb-true, cases-eq, cond-true, cond-false, eq-eqb, ne-eqb}
 use Rattle.std.proofs.shelf.Ways.{tells}
-use Rattle.channel_plan.specs.declared.header.Column.the-variants.{Channel, Rate, First}
-use Rattle.channel_plan.specs.declared.header.Header.{Header}
+use Rattle.plan_text.specs.declared.header.Column.the-variants.{Channel, Rate, First}
+use Rattle.plan_text.specs.declared.header.Header.{Header}
 use Rattle.channel_plan.specs.declared.rate.Rate.{Rate as RateType}
 use Rattle.channel_plan.specs.declared.refusal.FileRefusal.{FileRefusal}
 use Rattle.channel_plan.specs.declared.rate.Rate.the-variants.{Bps12000, Bps6000, Bps3000, Bps750}
@@ -25,13 +25,13 @@ use Rattle.channel_plan.specs.declared.refusal.RowRefusal.the-variants.{NoChan
 use Rattle.channel_plan.specs.declared.row.Assignment.{Assignment}
 use Rattle.channel_plan.specs.Adding.{admitted, admittedAt, assigned, conflict, unless, withRow}
 use Rattle.channel_plan.specs.Files.{Fault, Values, andThen, rowRefused, valuesOf, withLine, withLines, withValues}
-use Rattle.channel_plan.specs.Headers.{headerOf, under}
+use Rattle.plan_text.specs.Headers.{headerOf, under}
 use Rattle.channel_plan.specs.Laws.{Joins, Says, SomeLine, States}
-use Rattle.channel_plan.specs.Pieces.{Split, lines}
+use Rattle.plan_text.specs.Pieces.{Split, lines}
 use Rattle.channel_plan.specs.Rates.{bits, period, rateOf}
 use Rattle.channel_plan.specs.Tables.{Table, isChannel, rowAt}
-use Rattle.channel_plan.proofs.Cuts.{cut-split}
-use Rattle.channel_plan.proofs.Owners.{none-some}
+use Rattle.plan_text.proofs.Cuts.{cut-split}
+use Rattle.plan_text.proofs.Options.{none-some}
 use Rattle.channel_plan.proofs.Tables.{rowAt-more}
 
 ok-same : {X E : Type 0} {x y : X} → _≡_ {A = Result X E} (Ok x) (Ok y) → x ≡ y
@@ -120,13 +120,14 @@ line-joins h t line byte text u long e = at (valuesOf text) refl e
     by-row v p (Ok w) q e =
         let is : w ≡ u = cc in
         let a = added t (under h Channel (v .0) (v .1) (v .2)) (under h Rate (v .0) (v .1) (v .2)) (under h First (v .0) (v .1) (v .2)) u (q ∙ ap Ok is) in
-        let j = joins-row t (under h Channel (v .0) (v .1) (v .2)) (under h Rate (v .0) (v .1) (v .2)) (under h First (v .0) (v .1) (v .2)) u long a in
-        (record {
-          old = j .old;
-          new = λ c b s. j .new c b (says-values v p c b s);
-          only = λ c b f. ⊎-elim inl (λ k. inr (record { values = v; numbers = p; channel = k .0; rate = k .1; first = k .2 })) (j .only c b f);
-        },
-        ap length (a .is) ∙ length-set t (under h Channel (v .0) (v .1) (v .2) - 1) (Some (a .row)) ∙ long)
+        let j = joins-row t (under h Channel (v .0) (v .1) (v .2)) (under h Rate (v .0) (v .1) (v .2)) (under h First (v .0) (v .1) (v .2)) u long a in (
+          record {
+            old = j .old;
+            new = λ c b s. j .new c b (says-values v p c b s);
+            only = λ c b f. ⊎-elim inl (λ k. inr (record { values = v; numbers = p; channel = k .0; rate = k .1; first = k .2 })) (j .only c b f);
+          },
+          ap length (a .is) ∙ length-set t (under h Channel (v .0) (v .1) (v .2) - 1) (Some (a .row)) ∙ long,
+        )
       where
         says-values : (v : Values) → valuesOf text ≡ Ok v → (c : ℕ) (b : Assignment) → Says h text c b → (under h Channel (v .0) (v .1) (v .2) ≡ c) × (under h Rate (v .0) (v .1) (v .2) ≡ bits (b .rate)) × (under h First (v .0) (v .1) (v .2) ≡ b .first)
         says-values v p c b s =

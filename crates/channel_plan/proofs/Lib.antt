@@ -1,10 +1,8 @@
 pub mod Accepting
 pub mod Counting
-pub mod Cuts
 pub mod Loading
 pub mod Outcomes
 pub mod Owners
-pub mod Plain
 pub mod Printing
 pub mod Reporting
 pub mod Sharing

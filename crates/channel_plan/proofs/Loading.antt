@@ -8,16 +8,16 @@ use lib.ListN.{length}
 use Rattle.std.specs.declared.option.Option.the-variants.{Some}
 use Rattle.std.specs.declared.result.Result.{Result}
 use Rattle.std.specs.declared.result.Result.the-variants.{Ok, Err}
-use Rattle.channel_plan.specs.declared.header.Header.{Header}
+use Rattle.plan_text.specs.declared.header.Header.{Header}
 use Rattle.channel_plan.specs.declared.refusal.FileRefusal.{FileRefusal}
 use Rattle.channel_plan.specs.declared.refusal.Reason.the-variants.{TooLong, NotEnded, Names}
 use Rattle.channel_plan.specs.Files.{andThen, byLines, ended, underHeader, wholly, withFile, withLine, withLines}
-use Rattle.channel_plan.specs.Headers.{headerOf}
+use Rattle.plan_text.specs.Headers.{headerOf}
 use Rattle.channel_plan.specs.Outcomes.{answer, left}
-use Rattle.channel_plan.specs.Pieces.{Split, Without, lines}
+use Rattle.plan_text.specs.Pieces.{Split, Without, lines}
 use Rattle.channel_plan.specs.Tables.{Table}
 use Rattle.std.proofs.shelf.Tests.{cond-true, cond-false, lt-ltb, le-ltb}
-use Rattle.channel_plan.proofs.Cuts.{cut-split, lines-none}
+use Rattle.plan_text.proofs.Cuts.{cut-split, lines-none}
 use Rattle.channel_plan.proofs.Outcomes.{was-ok, was-err}
 
 module _ (h : Header) (t : Table) (line byte : ℕ) where

@@ -10,13 +10,11 @@ use Rattle.std.specs.declared.option.Option.{Option}
 use Rattle.std.specs.declared.option.Option.the-variants.{Some, None}
 use Rattle.std.proofs.shelf.Tests.{eqb-true, eq-eqb, cond-true, false≢true}
 use Rattle.std.proofs.shelf.Ways.{tells}
+use Rattle.plan_text.proofs.Options.{none-some}
 use Rattle.channel_plan.specs.declared.row.Assignment.{Assignment}
 use Rattle.channel_plan.specs.Rates.{period}
 use Rattle.channel_plan.specs.Rows.{owns}
 use Rattle.channel_plan.specs.Tables.{Table, isChannel, rowAt, passes, holds, ownerFrom, twice, Apart, Owns, OwnerIs}
-
-pub none-some : {X : Type 0} {x : X} → None ≡ Some x → ⊥
-none-some e = let z : _≡_ {A = ℕ} 0 1 = cc in omega arith
 
 -- the owner found from channel k on is among the entries, and its row has the slot
 pub record Found (k : ℕ) (t : Table) (s c : ℕ) : Type 0 where

@@ -58,9 +58,10 @@ module _ (a b : Assignment) (shorter : period (b .rate) ≤ period (a .rate)) wh
   to-common h = (a .first, omega (arith, period-range (a .rate)), (mod-eq-of-lt (h .0), h .1))
 
   from-common : Common a b → (a .first < period (a .rate)) × (a .first % period (b .rate) ≡ b .first)
-  from-common h =
-      (subst (λ n. n < period (a .rate)) (h .2 .0) (mod-lt (h .0) (period-range (a .rate) .0)),
-      ap (λ n. n % period (b .rate)) (sym (h .2 .0)) ∙ nested (a .rate) (b .rate) (h .0) shorter ∙ h .2 .1)
+  from-common h = (
+    subst (λ n. n < period (a .rate)) (h .2 .0) (mod-lt (h .0) (period-range (a .rate) .0)),
+    ap (λ n. n % period (b .rate)) (sym (h .2 .0)) ∙ nested (a .rate) (b .rate) (h .0) shorter ∙ h .2 .1,
+  )
 
   pub lies-shares : liesIn a b ≡ shares a b
   lies-shares = same-from-decides (liesIn a b) (shares a b) (decides-like (liesIn a b) to-common from-common (lies a b)) (common a b)

@@ -8,16 +8,16 @@ use Rattle.std.specs.declared.option.Option.{Option}
 use Rattle.std.specs.declared.option.Option.the-variants.{Some, None}
 use Rattle.std.specs.declared.result.Result.{Result}
 use Rattle.std.specs.declared.result.Result.the-variants.{Ok, Err}
-use Rattle.channel_plan.specs.declared.header.Column.the-variants.{Channel, Rate, First}
-use Rattle.channel_plan.specs.declared.header.Header.{Header}
+use Rattle.plan_text.specs.declared.header.Column.the-variants.{Channel, Rate, First}
+use Rattle.plan_text.specs.declared.header.Header.{Header}
 use Rattle.channel_plan.specs.declared.refusal.FileRefusal.{FileRefusal}
 use Rattle.channel_plan.specs.declared.refusal.Reason.{Reason}
 use Rattle.channel_plan.specs.declared.refusal.Reason.the-variants.{TooLong, NotEnded, Names, Fields, Number, Row}
 use Rattle.channel_plan.specs.declared.refusal.RowRefusal.{RowRefusal}
 use Rattle.channel_plan.specs.Adding.{withRow}
-use Rattle.channel_plan.specs.Headers.{headerOf, under}
-use Rattle.channel_plan.specs.Numbers.{numberOf}
-use Rattle.channel_plan.specs.Pieces.{Three, fields, lines, three}
+use Rattle.plan_text.specs.Headers.{headerOf, under}
+use Rattle.plan_text.specs.Numbers.{numberOf}
+use Rattle.plan_text.specs.Pieces.{Three, fields, lines, three}
 use Rattle.channel_plan.specs.Tables.{Table}
 
 -- the numbers of a line from left to right

@@ -7,13 +7,13 @@ use lib.ListN.{length, getD}
 use Rattle.std.specs.declared.option.Option.the-variants.{Some}
 use Rattle.std.specs.declared.result.Result.{Result}
 use Rattle.std.specs.declared.result.Result.the-variants.{Ok, Err}
-use Rattle.channel_plan.specs.declared.header.Column.the-variants.{Channel, Rate, First}
-use Rattle.channel_plan.specs.declared.header.Header.{Header}
+use Rattle.plan_text.specs.declared.header.Column.the-variants.{Channel, Rate, First}
+use Rattle.plan_text.specs.declared.header.Header.{Header}
 use Rattle.channel_plan.specs.declared.refusal.FileRefusal.{FileRefusal}
 use Rattle.channel_plan.specs.declared.row.Assignment.{Assignment}
 use Rattle.channel_plan.specs.Files.{Values, valuesOf}
-use Rattle.channel_plan.specs.Headers.{headerOf, under}
-use Rattle.channel_plan.specs.Pieces.{lines}
+use Rattle.plan_text.specs.Headers.{headerOf, under}
+use Rattle.plan_text.specs.Pieces.{lines}
 use Rattle.channel_plan.specs.Rates.{bits}
 use Rattle.channel_plan.specs.Tables.{Table, rowAt}
 

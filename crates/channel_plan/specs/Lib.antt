@@ -1,12 +1,9 @@
 pub mod Adding
 pub mod Files
-pub mod Headers
 pub mod Iterating
 pub mod Laws
 pub mod Listings
-pub mod Numbers
 pub mod Outcomes
-pub mod Pieces
 pub mod Rates
 pub mod Refusals
 pub mod Rows

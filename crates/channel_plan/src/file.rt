@@ -6,13 +6,13 @@ ghost use Rattle.std.specs.Results.{Cases};
 ghost use Rattle.channel_plan.specs.Files.{ended, valuesOf, wholly, withFile, withLine, withLines};
 ghost use Rattle.channel_plan.specs.Laws.{Accepted};
 ghost use Rattle.channel_plan.specs.Outcomes.{answer, left};
-ghost use Rattle.channel_plan.specs.Pieces.{lines};
+ghost use Rattle.plan_text.specs.Pieces.{lines};
 use crate::draft::Draft;
-use crate::header::Column;
-use crate::header::Header;
 use crate::refusal::FileRefusal;
 use crate::refusal::Reason;
-use crate::text;
+use plan_text::Column;
+use plan_text::Header;
+use plan_text::text;
 
 // The longest plan file.
 pub const MAX_FILE: usize = 4096;
@@ -31,7 +31,11 @@ fn ended(file: &[u8]) -> bool
 fn whole(reason: Reason) -> FileRefusal
     ensures { λ r. ⌜ r ≡ wholly reason ⌝ }
 {
-    FileRefusal { reason, line: 0, byte: 0 }
+    FileRefusal {
+        reason,
+        line: 0,
+        byte: 0,
+    }
 }
 
 // The three numbers of a line from left to right; or why not, and at which of its bytes.
@@ -106,21 +110,35 @@ impl Draft {
     }
 
     // Adds the row of one line, which begins at `byte`, or refuses it and leaves the draft.
-    fn add_line(&mut self, header: Header, text: &[u8], line: usize, byte: usize) -> Result<(), FileRefusal>
+    fn add_line(
+        &mut self,
+        header: Header,
+        text: &[u8],
+        line: usize,
+        byte: usize,
+    ) -> Result<(), FileRefusal>
         requires { ⌜ byte + length (now text) ≤ 4096 ⌝ }
         ensures answer { λ r. ⌜ r ≡ answer (withLine header (now (self .entry) .table) line byte (now (text .entry))) ⌝ }
         ensures left { λ _. ⌜ now (self .exit) .table ≡ left (withLine header (now (self .entry) .table) line byte (now (text .entry))) (now (self .entry) .table) ⌝ }
     {
         let (x, y, z) = match values(text) {
             Ok(numbers) => numbers,
-            Err((reason, at)) => return Err(FileRefusal { reason, line, byte: byte + at }),
+            Err((reason, at)) => return Err(FileRefusal {
+                reason,
+                line,
+                byte: byte + at,
+            }),
         };
         let channel = header.under(Column::Channel, x, y, z);
         let rate = header.under(Column::Rate, x, y, z);
         let first = header.under(Column::First, x, y, z);
         match self.add(channel, rate, first) {
             Ok(()) => Ok(()),
-            Err(refusal) => Err(FileRefusal { reason: Reason::Row(refusal), line, byte }),
+            Err(refusal) => Err(FileRefusal {
+                reason: Reason::Row(refusal),
+                line,
+                byte,
+            }),
         }
     }
 }

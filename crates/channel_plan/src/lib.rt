@@ -1,16 +1,14 @@
 // Channel plans: which channel owns which slot of the frame.
 pub mod draft;
 pub mod file;
-pub mod plan;
-mod header;
 pub mod listing;
+pub mod plan;
 pub mod rate;
 pub mod refusal;
 pub mod report;
 pub mod row;
 pub mod rows;
 mod table;
-mod text;
 
 pub use draft::Draft;
 pub use plan::Plan;

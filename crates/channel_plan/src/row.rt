@@ -22,28 +22,31 @@ pub struct Row {
 
 impl Row {
     // What it assigns to its channel.
-    pub fn assignment(&self) -> Assignment
+    pub(crate) fn assignment(&self) -> Assignment
         ensures { λ r. ⌜ r ≡ assignment (now (self .entry)) ⌝ }
     {
-        Assignment { rate: self.rate, first: self.first }
+        Assignment {
+            rate: self.rate,
+            first: self.first,
+        }
     }
 }
 
 impl Assignment {
-    pub fn group(self) -> u16
+    pub(crate) fn group(self) -> u16
         ensures { λ r. ⌜ r ≡ group self ⌝ }
     {
         self.first % 5
     }
 
-    pub fn owns(self, slot: u16) -> bool
+    pub(crate) fn owns(self, slot: u16) -> bool
         ensures { λ r. ⌜ r ≡ owns self slot ⌝ }
     {
         slot % self.rate.period() == self.first
     }
 
     // Whether both are of one group, and of two rates.
-    pub fn mixes(self, other: Assignment) -> bool
+    pub(crate) fn mixes(self, other: Assignment) -> bool
         ensures { λ r. ⌜ r ≡ mixes self other ⌝ }
     {
         self.group() == other.group() && self.rate != other.rate
@@ -51,7 +54,7 @@ impl Assignment {
 
     // Whether some slot of the frame goes to both. The longer of two periods is a multiple of the
     // shorter, so the row of the longer period decides by its first slot.
-    pub fn shares(self, other: Assignment) -> bool
+    pub(crate) fn shares(self, other: Assignment) -> bool
         ensures { λ r. ⌜ r ≡ shares self other ⌝ }
     {
         if self.rate.period() <= other.rate.period() {

@@ -17,7 +17,10 @@ impl Plan {
     pub fn rows(&self) -> Rows<'_>
         ensures { λ r. ⌜ toCome r ≡ rowsAfter (now (self .entry) .table) 0 ⌝ }
     {
-        Rows { plan: self, seen: 0 }
+        Rows {
+            plan: self,
+            seen: 0,
+        }
     }
 }
 

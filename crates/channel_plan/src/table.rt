@@ -8,7 +8,7 @@ use crate::refusal::RowRefusal;
 use crate::row::Assignment;
 use crate::row::Row;
 
-pub fn assigned_to(table: &[Option<Assignment>; 80], channel: u16) -> Option<Assignment>
+pub(crate) fn assigned_to(table: &[Option<Assignment>; 80], channel: u16) -> Option<Assignment>
     ensures { λ r. ⌜ r ≡ rowAt (now (table .entry)) channel ⌝ }
 {
     if channel == 0 || channel > 80 {
@@ -18,7 +18,7 @@ pub fn assigned_to(table: &[Option<Assignment>; 80], channel: u16) -> Option<Ass
 }
 
 // Why the assignment cannot stand beside the rows, if it cannot.
-pub fn conflict_with(table: &[Option<Assignment>; 80], new: Assignment) -> Option<RowRefusal>
+pub(crate) fn conflict_with(table: &[Option<Assignment>; 80], new: Assignment) -> Option<RowRefusal>
     ensures { λ r. ⌜ r ≡ conflict (now (table .entry)) new ⌝ }
 {
     let mut mixed = false;
@@ -43,12 +43,14 @@ pub fn conflict_with(table: &[Option<Assignment>; 80], new: Assignment) -> Optio
 }
 
 // The lowest channel whose row owns the slot.
-pub fn owner_among(table: &[Option<Assignment>; 80], slot: u16) -> Option<u16>
+pub(crate) fn owner_among(table: &[Option<Assignment>; 80], slot: u16) -> Option<u16>
     ensures { λ r. ⌜ r ≡ ownerFrom 1 (now (table .entry)) slot ⌝ }
 {
     let mut channel: u16 = 1;
     for row in table {
-        if let Some(assignment) = row && assignment.owns(slot) {
+        if let Some(assignment) = row
+            && assignment.owns(slot)
+        {
             return Some(channel);
         }
         channel += 1;
@@ -57,7 +59,7 @@ pub fn owner_among(table: &[Option<Assignment>; 80], slot: u16) -> Option<u16>
 }
 
 // The owner of each slot of the frame.
-pub fn owners_of(table: &[Option<Assignment>; 80]) -> [Option<u16>; 240]
+pub(crate) fn owners_of(table: &[Option<Assignment>; 80]) -> [Option<u16>; 240]
     ensures { λ r. ⌜ Owned (now (table .entry)) r ⌝ }
 {
     let mut owners = [None; 240];
@@ -68,13 +70,17 @@ pub fn owners_of(table: &[Option<Assignment>; 80]) -> [Option<u16>; 240]
 }
 
 // The row of the lowest channel above this one.
-pub fn next_row(table: &[Option<Assignment>; 80], channel: u16) -> Option<Row>
+pub(crate) fn next_row(table: &[Option<Assignment>; 80], channel: u16) -> Option<Row>
     ensures next { λ r. ⌜ NextRow (now (table .entry)) channel r ⌝ }
     ensures above { λ r. ⌜ Cases r (Unit {0}) (λ row. (channel < row .channel) × (row .channel ≤ 80)) ⌝ }
 {
     for seen in channel..80 {
         if let Some(assignment) = table[seen as usize] {
-            return Some(Row { channel: seen + 1, rate: assignment.rate, first: assignment.first });
+            return Some(Row {
+                channel: seen + 1,
+                rate: assignment.rate,
+                first: assignment.first,
+            });
         }
     }
     None

@@ -25,7 +25,11 @@ impl Plan {
         ensures value { λ r. ⌜ r ≡ ownerOf (now (self .entry) .table) slot ⌝ }
         ensures exact { λ r. ⌜ ((c : ℕ) → OwnerIs (now (self .entry) .table) slot r c) ⌝ }
     {
-        if slot < 240 { self.owners[slot as usize] } else { None }
+        if slot < 240 {
+            self.owners[slot as usize]
+        } else {
+            None
+        }
     }
 
     // The row of a channel.
@@ -33,7 +37,11 @@ impl Plan {
         ensures { λ r. ⌜ r ≡ rowOf (now (self .entry) .table) channel ⌝ }
     {
         match table::assigned_to(&self.table, channel) {
-            Some(assignment) => Some(Row { channel, rate: assignment.rate, first: assignment.first }),
+            Some(assignment) => Some(Row {
+                channel,
+                rate: assignment.rate,
+                first: assignment.first,
+            }),
             None => None,
         }
     }

@@ -11,13 +11,13 @@ returns-in-loop-row c =
     let h : c .loop-row .row-index < length (c .args .table .now) = search needs in
     let m = at-drop-more (λ (t : Table). ownerFrom (c .loop-row .channel) t (c .args .slot)) (c .args .table .now) (c .loop-row .row-index) None h in
     search needs
-    
+
 pub loop-row-again : need.loop-row-again
 loop-row-again c =
     let h : c .loop-row .row-index < length (c .args .table .now) = search needs in
     let m = at-drop-more (λ (t : Table). ownerFrom (c .loop-row .channel) t (c .args .slot)) (c .args .table .now) (c .loop-row .row-index) None h in
     search needs
-    
+
 pub returns : need.returns
 returns c =
     let m = at-drop-all (λ (t : Table). ownerFrom (c .loop-row .channel) t (c .args .slot)) (c .args .table .now) (c .loop-row .row-index) (search needs) in

@@ -11,6 +11,7 @@ use Rattle.channel_plan.proofs.table.owners_of.Needs as need
 pub loop-slot-again : need.loop-slot-again
 loop-slot-again c =
     let i = c .loop-slot .slot in
-    let more = fill-by-more (ownerFrom 1 (c .args .table .now)) (c .loop-slot .owners) i None (search needs) (c .loop-slot .inv .1) in
-    (search needs,
-    subst (λ o. (s : ℕ) → s < i + 1 → getD (set (c .loop-slot .owners) i o) s None ≡ ownerFrom 1 (c .args .table .now) s) (sym (c .owner-among .ensures)) more)
+    let more = fill-by-more (ownerFrom 1 (c .args .table .now)) (c .loop-slot .owners) i None (search needs) (c .loop-slot .inv .1) in (
+      search needs,
+      subst (λ o. (s : ℕ) → s < i + 1 → getD (set (c .loop-slot .owners) i o) s None ≡ ownerFrom 1 (c .args .table .now) s) (sym (c .owner-among .ensures)) more,
+    )

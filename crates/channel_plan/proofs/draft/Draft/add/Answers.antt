@@ -12,7 +12,10 @@ ghost-self c =
     let long = c .args .self .now .long in
     let low : 0 < c .args .channel = search needs in
     let high : c .args .channel ≤ 80 = search needs in
-    let clear = no-conflict t new (sym (c .conflict-with .ensures) ∙ c .in-rest-conflict-with .is) in
-    (below-more t (c .args .channel) new long low high (c .args .self .now .below) (search needs),
-    (one-rate-more t (c .args .channel) new long low high (c .args .self .now .oneRate) (clear .0),
-    (apart-more t (c .args .channel) new long low high (c .args .self .now .apart) (clear .1), (search needs, tt))))
+    let clear = no-conflict t new (sym (c .conflict-with .ensures) ∙ c .in-rest-conflict-with .is) in (
+      below-more t (c .args .channel) new long low high (c .args .self .now .below) (search needs),
+      (
+        one-rate-more t (c .args .channel) new long low high (c .args .self .now .oneRate) (clear .0),
+        (apart-more t (c .args .channel) new long low high (c .args .self .now .apart) (clear .1), (search needs, tt)),
+      ),
+    )

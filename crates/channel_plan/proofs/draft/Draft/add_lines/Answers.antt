@@ -2,7 +2,7 @@ use mathlib.Core.Path.{sym, ap, _∙_}
 use native.Mathlib.Omega.{arith}
 use borrow.Author.Needs.{needs}
 use Rattle.channel_plan.specs.Outcomes.{answer, left}
-use Rattle.channel_plan.proofs.Cuts.{length-split}
+use Rattle.plan_text.proofs.Cuts.{length-split}
 use Rattle.channel_plan.proofs.Loading.{lines-end, line-more, line-refused}
 use Rattle.channel_plan.proofs.draft.Draft.add_lines.Needs as need
 
@@ -19,10 +19,12 @@ loop-row-less c = omega (arith, length-split 10 (c .loop-row .rest .now) _ _ (c 
 
 pub loop-row-again : need.loop-row-again
 loop-row-again c =
-    let long = length-split 10 (c .loop-row .rest .now) _ _ (c .in-Some .ensures tt) in
-    (omega (arith, long, c .loop-row .inv), omega (arith, c .loop-row .inv),
-    line-more (c .args .header) (c .loop-row .self .table) (c .loop-row .line) (c .loop-row .start) (c .loop-row .rest .now) _ _ (c .in-Some .ensures tt) (c .add-line .last .self .table) (c .in-Ok .ensures tt .answer) (c .add-line .ensures .left)
-    ∙ c .loop-row .inv .2)
+    let long = length-split 10 (c .loop-row .rest .now) _ _ (c .in-Some .ensures tt) in (
+      omega (arith, long, c .loop-row .inv),
+      omega (arith, c .loop-row .inv),
+      line-more (c .args .header) (c .loop-row .self .table) (c .loop-row .line) (c .loop-row .start) (c .loop-row .rest .now) _ _ (c .in-Some .ensures tt) (c .add-line .last .self .table) (c .in-Ok .ensures tt .answer) (c .add-line .ensures .left)
+          ∙ c .loop-row .inv .2,
+    )
 
 pub returns : need.returns
 returns c =

@@ -2,7 +2,7 @@ use Prim.Native.Nat.{_+_, _≤_}
 use mathlib.Core.Path.{_≡_}
 use lib.ListN.{length}
 use Rattle.channel_plan.specs.Files.{withLines}
-use Rattle.channel_plan.specs.Pieces.{lines}
+use Rattle.plan_text.specs.Pieces.{lines}
 use Rattle.channel_plan.proofs.draft.Draft.add_lines.Given as given
 
 -- what is left gives what the whole gives

@@ -5,7 +5,7 @@ use Rattle.channel_plan.specs.Files.{withFile}
 use Rattle.channel_plan.specs.Outcomes.{answer, left}
 use Rattle.std.specs.declared.result.Result.the-variants.{Ok}
 use Rattle.channel_plan.proofs.Accepting.{file-joins}
-use Rattle.channel_plan.proofs.Cuts.{length-split}
+use Rattle.plan_text.proofs.Cuts.{length-split}
 use Rattle.channel_plan.proofs.Loading.{file-long, file-open, file-empty, file-named, file-lines}
 use Rattle.channel_plan.proofs.Outcomes.{was-err, was-ok}
 use Rattle.channel_plan.proofs.draft.Draft.load.Needs as need

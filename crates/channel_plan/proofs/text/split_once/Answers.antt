@@ -1,6 +1,0 @@
-use borrow.Author.Needs.{needs}
-use Rattle.channel_plan.proofs.Cuts.{split-at}
-use Rattle.channel_plan.proofs.text.split_once.Needs as need
-
-pub returns-then-byte-separator : need.returns-then-byte-separator
-returns-then-byte-separator c = split-at (c .args .separator) (c .args .text .now) (c .loop-i .i) (search needs) (search needs) (c .loop-i .inv)

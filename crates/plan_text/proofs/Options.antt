@@ -1,0 +1,8 @@
+-- Nothing is not something.
+use Prim.Native.Nat.{ℕ}
+use mathlib.Core.Path.{_≡_}
+use native.Mathlib.Omega.{arith}
+use Rattle.std.specs.declared.option.Option.the-variants.{Some, None}
+
+pub none-some : {X : Type 0} {x : X} → None ≡ Some x → ⊥
+none-some e = let z : _≡_ {A = ℕ} 0 1 = cc in omega arith
