@@ -3,7 +3,7 @@ use Prim.Native.Nat.{ℕ, _+_, _-_, _%_, _<_}
 use mathlib.Core.Bool.{Bool, true, false, cond, not, _&&_, _||_}
 use mathlib.Core.List.{List, [], _∷_, _++_}
 use mathlib.Core.Path.{_≡_}
-use lib.Dec.{eqb, ltb}
+use lib.Dec.{eqb, leb, ltb}
 use lib.ListN.{getD, drop}
 use Rattle.std.specs.Vec.{listOf}
 use Rattle.std.specs.declared.option.Option.{Option}
@@ -18,7 +18,7 @@ abbrev pub Table : Type 0
 Table = List (Option Assignment)
 
 abbrev pub isChannel : ℕ → Bool
-isChannel c = ltb 0 c && ltb c 81
+isChannel c = leb 1 c && leb c 80
 
 -- what channel c is assigned
 abbrev pub rowAt : Table → ℕ → Option Assignment

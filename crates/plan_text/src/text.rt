@@ -8,6 +8,9 @@ ghost use Rattle.std.specs.declared.option.Option.the-variants.{None, Some};
 ghost use Rattle.plan_text.specs.Numbers.{Writes, digitsOf, numberOf, opens};
 ghost use Rattle.plan_text.specs.Pieces.{Split, Without, fields, three};
 
+// The largest number that a field may write.
+const LARGEST: u32 = 65535;
+
 // The text before the first separator, and the text after it.
 pub fn split_once(text: &[u8], separator: u8) -> Option<(&[u8], &[u8])>
     ensures { λ r. ⌜ Cases r (Without separator (now (text .entry))) (λ p. Split separator (now (text .entry)) (now (p .0)) (now (p .1))) ⌝ }
@@ -73,7 +76,7 @@ fn digits(field: &[u8]) -> Option<u16>
             return None;
         }
         value = value * 10 + (*byte - b'0') as u32;
-        if value > 65535 {
+        if value > LARGEST {
             return None;
         }
     }

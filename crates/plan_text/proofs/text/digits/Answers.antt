@@ -15,8 +15,8 @@ returns-then-not-is-ascii-digit c =
     let d = at-drop-more allDigits f i 0 (c .loop-byte-test .taken) in
     search needs
 
-pub returns-then-value-gt65535 : need.returns-then-value-gt65535
-returns-then-value-gt65535 c =
+pub returns-then-value-gt-LARGEST : need.returns-then-value-gt-LARGEST
+returns-then-value-gt-LARGEST c =
     let f = c .args .field .now in
     let i = c .loop-byte .byte-index in
     let r = at-drop-more (reading (c .loop-byte .value)) f i 0 (c .loop-byte-test .taken) in
