@@ -6,6 +6,7 @@ use mathlib.Core.Path.{_≡_, refl, sym, ap, subst, _∙_}
 use native.Mathlib.Omega.{arith}
 use lib.Dec.{eqb, ltb}
 use lib.ListN.{length, getD}
+use Rattle.std.specs.Options.{Cases}
 use Rattle.std.specs.declared.option.Option.{Option}
 use Rattle.std.specs.declared.option.Option.the-variants.{Some, None}
 use Rattle.std.proofs.shelf.Tests.{eqb-true, eq-eqb, cond-true, false≢true}
@@ -74,6 +75,14 @@ is-channel t c a e = at (isChannel c) refl e
     at : (b : Bool) → isChannel c ≡ b → cond b (getD t (c - 1) None) None ≡ Some a → isChannel c ≡ true
     at true p q = p
     at false p q = absurd (none-some q)
+
+-- an owner is one of the eighty channels
+pub owner-known : (t : Table) (s : ℕ) → length t ≡ 80 → Cases (ownerFrom 1 t s) (Unit {0}) (λ c. (0 < c) × (c ≤ 80))
+owner-known t s long = at (ownerFrom 1 t s) refl
+  where
+    at : (o : Option ℕ) → ownerFrom 1 t s ≡ o → Cases o (Unit {0}) (λ c. (0 < c) × (c ≤ 80))
+    at None e = tt
+    at (Some c) e = let f = found 1 t s c e in (omega (arith, f .from), omega (arith, f .within))
 
 module _ (t : Table) (long : length t ≡ 80) (apart : Apart t) (s : ℕ) (framed : s < 240) where
   owner-holds : (c : ℕ) → ownerFrom 1 t s ≡ Some c → holds t c s ≡ true

@@ -4,7 +4,7 @@ ghost use lib.ListN.{length};
 ghost use Rattle.channel_plan.specs.Tables.{Below, OneRate, Apart};
 use crate::row::Assignment;
 
-// The rows so far. Its invariant is what makes a plan: no slot goes to two channels.
+/// The rows so far. Its invariant is what makes a plan: no slot goes to two channels.
 #[derive(Drop)]
 pub struct Draft {
     pub(crate) table: [Option<Assignment>; 80],

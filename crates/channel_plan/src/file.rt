@@ -14,7 +14,7 @@ use plan_text::Column;
 use plan_text::Header;
 use plan_text::text;
 
-// The longest plan file.
+/// The longest plan file.
 pub const MAX_FILE: usize = 4096;
 
 // Whether the last byte, if there is one, ends a line.
@@ -59,7 +59,7 @@ fn values(line: &[u8]) -> Result<(u16, u16, u16), (Reason, usize)>
 }
 
 impl Draft {
-    // Adds the rows of a plan file, or refuses it and leaves the draft.
+    /// Adds the rows of a plan file, or refuses it and leaves the draft.
     pub fn load(&mut self, file: &[u8]) -> Result<(), FileRefusal>
         ensures answer { λ r. ⌜ r ≡ answer (withFile (now (self .entry) .table) (now (file .entry))) ⌝ }
         ensures left { λ _. ⌜ now (self .exit) .table ≡ left (withFile (now (self .entry) .table) (now (file .entry))) (now (self .entry) .table) ⌝ }

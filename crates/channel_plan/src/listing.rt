@@ -19,7 +19,7 @@ pub impl fmt::Display for Row as RowDisplay {
     }
 }
 
-// A plan prints as its listing.
+/// A plan prints as its listing.
 pub impl fmt::Display for Plan as PlanDisplay {
     ghost shown = { λ p. Some (listing (p .table)) };
 

@@ -2,7 +2,7 @@
 ghost use Rattle.channel_plan.specs.Tables.{Apart, Below, OneRate, Owned};
 use crate::row::Assignment;
 
-// The rows of a draft, with the owner of each slot worked out from them.
+/// The rows of a draft, with the owner of each slot worked out from them.
 #[derive(Clone, Copy)]
 pub struct Plan {
     table: [Option<Assignment>; 80],

@@ -2,7 +2,7 @@
 ghost use mathlib.Core.Path.{_≡_};
 ghost use Rattle.channel_plan.specs.Rates.{bits, period, rateOf, same};
 
-// A gross rate, by its bit/s.
+/// A gross rate, by its bit/s.
 #[derive(Clone, Copy, PartialEq, Eq)]
 pub enum Rate {
     Bps12000,
@@ -12,7 +12,7 @@ pub enum Rate {
 }
 
 impl Rate {
-    // The rate of so many bit/s, if there is one.
+    /// The rate of so many bit/s, if there is one.
     pub fn from_bits(bits: u16) -> Option<Rate>
         ensures { λ r. ⌜ r ≡ rateOf bits ⌝ }
     {
@@ -25,7 +25,7 @@ impl Rate {
         }
     }
 
-    // Its bit/s.
+    /// Its bit/s.
     pub fn bits(self) -> u16
         ensures { λ r. ⌜ r ≡ bits self ⌝ }
     {
@@ -37,7 +37,7 @@ impl Rate {
         }
     }
 
-    // How many slots lie between one slot of a channel and its next.
+    /// How many slots lie between one slot of a channel and its next.
     pub fn period(self) -> u16
         ensures { λ r. ⌜ r ≡ period self ⌝ }
     {

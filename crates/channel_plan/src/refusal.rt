@@ -2,16 +2,16 @@
 ghost use mathlib.Core.Path.{_≡_};
 ghost use Rattle.channel_plan.specs.Refusals.{fileNumber, rowNumber};
 
-// Why a row is refused: the first of these that holds, in this order.
+/// Why a row is refused: the first of these that holds, in this order.
 #[derive(Clone, Copy)]
 pub enum RowRefusal {
-    // the channel is not 1 to 80
+    /// the channel is not 1 to 80
     NoChannel,
     UnknownRate,
-    // the first slot is not below the period
+    /// the first slot is not below the period
     FirstSlot,
     ChannelPresent,
-    // the group has a row of another rate
+    /// the group has a row of another rate
     GroupRate,
     SlotTaken,
 }
@@ -31,18 +31,18 @@ impl RowRefusal {
     }
 }
 
-// Why a plan file is refused. The first three are of the whole file, the others of a line.
+/// Why a plan file is refused. The first three are of the whole file, the others of a line.
 #[derive(Clone, Copy)]
 pub enum Reason {
-    // over 4,096 bytes
+    /// over 4,096 bytes
     TooLong,
-    // the last byte does not end a line
+    /// the last byte does not end a line
     NotEnded,
-    // the names are wrong or missing
+    /// the names are wrong or missing
     Names,
-    // not three fields
+    /// not three fields
     Fields,
-    // the field is no plain number
+    /// the field is no plain number
     Number,
     Row(RowRefusal),
 }
@@ -62,9 +62,9 @@ impl Reason {
     }
 }
 
-// Why a plan file is refused, and where: the line from 1, and the byte from 0 at which the field
-// begins that is no number, or for the other reasons of a line the line. Both are 0 where the reason
-// is of the whole file.
+/// Why a plan file is refused, and where: the line from 1, and the byte from 0 at which the field
+/// begins that is no number, or for the other reasons of a line the line. Both are 0 where the reason
+/// is of the whole file.
 #[derive(Clone, Copy)]
 pub struct FileRefusal {
     pub reason: Reason,

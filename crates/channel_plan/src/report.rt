@@ -9,7 +9,7 @@ use crate::listing::PlanDisplay;
 use std::alloc::AllocError;
 use std::alloc::Global;
 
-// The listing of the file's plan, or its refusal.
+/// The listing of the file's plan, or its refusal.
 pub fn report_on(heap: Global, file: &[u8]) -> Result<String, AllocError>
     ensures { λ r. ⌜ made r (λ text. string-bytes text ≡ report (now (file .entry))) ⌝ }
 {

@@ -5,14 +5,14 @@ ghost use Rattle.channel_plan.specs.Rows.{group, liesIn, mixes, owns, shares, 
 use crate::rate::Rate;
 use crate::rate::RatePartialEq;
 
-// What a plan assigns to a channel: the slots that leave `first` when divided by the rate's period.
+/// What a plan assigns to a channel: the slots that leave `first` when divided by the rate's period.
 #[derive(Clone, Copy)]
 pub struct Assignment {
     pub rate: Rate,
     pub first: u16,
 }
 
-// A row of a plan.
+/// A row of a plan.
 #[derive(Clone, Copy)]
 pub struct Row {
     pub channel: u16,
@@ -71,7 +71,7 @@ impl Assignment {
         self.first < self.rate.period() && other.owns(self.first)
     }
 
-    // How many slots of the frame it gives.
+    /// How many slots of the frame it gives.
     pub fn slots(self) -> u16
         ensures { λ r. ⌜ r ≡ slots self ⌝ }
     {

@@ -6,7 +6,7 @@ ghost use Rattle.channel_plan.specs.Tables.{rowsAfter};
 use crate::plan::Plan;
 use crate::row::Row;
 
-// An iterator over the rows of a plan by rising channel, past those of the channels seen.
+/// An iterator over the rows of a plan by rising channel, past those of the channels seen.
 #[derive(Drop)]
 pub struct Rows<'a> {
     plan: &'a Plan,

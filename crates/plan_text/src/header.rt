@@ -3,7 +3,7 @@ ghost use mathlib.Core.Path.{_≡_};
 ghost use Rattle.plan_text.specs.Headers.{columnOf, headerOf, under};
 use crate::text;
 
-// What a column of a plan file holds.
+/// What a column of a plan file holds.
 #[derive(Clone, Copy, PartialEq, Eq)]
 pub enum Column {
     Channel,
@@ -11,7 +11,7 @@ pub enum Column {
     First,
 }
 
-// The columns of a plan file from left to right, each once.
+/// The columns of a plan file from left to right, each once.
 #[derive(Clone, Copy)]
 pub struct Header {
     pub left: Column,
@@ -36,7 +36,7 @@ impl Column {
 }
 
 impl Header {
-    // The three names in any order.
+    /// The three names in any order.
     pub fn read(line: &[u8]) -> Option<Header>
         ensures { λ r. ⌜ r ≡ headerOf (now (line .entry)) ⌝ }
     {
@@ -62,7 +62,7 @@ impl Header {
         })
     }
 
-    // The value under a name.
+    /// The value under a name.
     pub fn under(self, name: Column, left: u16, middle: u16, right: u16) -> u16
         ensures { λ r. ⌜ r ≡ under self name left middle right ⌝ }
     {

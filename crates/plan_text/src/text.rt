@@ -11,7 +11,7 @@ ghost use Rattle.plan_text.specs.Pieces.{Split, Without, fields, three};
 // The largest number that a field may write.
 const LARGEST: u32 = 65535;
 
-// The text before the first separator, and the text after it.
+/// The text before the first separator, and the text after it.
 pub fn split_once(text: &[u8], separator: u8) -> Option<(&[u8], &[u8])>
     ensures { λ r. ⌜ Cases r (Without separator (now (text .entry))) (λ p. Split separator (now (text .entry)) (now (p .0)) (now (p .1))) ⌝ }
 {
@@ -23,7 +23,7 @@ pub fn split_once(text: &[u8], separator: u8) -> Option<(&[u8], &[u8])>
     None
 }
 
-// The fields of a line that has three.
+/// The fields of a line that has three.
 pub fn three_fields(line: &[u8]) -> Option<(&[u8], &[u8], &[u8])>
     ensures parts { λ r. ⌜ Cases r (three (fields (now (line .entry))) ≡ None) (λ f. three (fields (now (line .entry))) ≡ Some (now (f .0), now (f .1), now (f .2))) ⌝ }
     ensures long { λ r. ⌜ Cases r (Unit {0}) (λ f. length (now (f .0)) + 1 + (length (now (f .1)) + 1) + length (now (f .2)) ≡ length (now (line .entry))) ⌝ }
@@ -40,14 +40,14 @@ pub fn three_fields(line: &[u8]) -> Option<(&[u8], &[u8], &[u8])>
     }
 }
 
-// Whether the field is just that word.
+/// Whether the field is just that word.
 pub fn is_word(field: &[u8], word: &[u8]) -> bool
     ensures { λ r. ⌜ r ≡ sameBytes (now (field .entry)) (now (word .entry)) ⌝ }
 {
     field == word
 }
 
-// The number that a field writes in plain digits.
+/// The number that a field writes in plain digits.
 pub fn number(field: &[u8]) -> Option<u16>
     ensures value { λ r. ⌜ r ≡ numberOf (now (field .entry)) ⌝ }
     ensures plain { λ r. ⌜ ((n : ℕ) → Writes (now (field .entry)) r n) ⌝ }

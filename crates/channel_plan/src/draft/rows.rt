@@ -11,14 +11,14 @@ use crate::row::Assignment;
 use crate::table;
 
 impl Draft {
-    // A draft with no row.
+    /// A draft with no row.
     pub fn new() -> Draft
         ensures { λ r. ⌜ r .table ≡ replicate 80 None ⌝ }
     {
         Draft { table: [None; 80] }
     }
 
-    // Adds a row, or refuses it and leaves the draft.
+    /// Adds a row, or refuses it and leaves the draft.
     pub fn add(&mut self, channel: u16, rate: u16, first: u16) -> Result<(), RowRefusal>
         ensures answer { λ r. ⌜ r ≡ answer (withRow (now (self .entry) .table) channel rate first) ⌝ }
         ensures left { λ _. ⌜ now (self .exit) .table ≡ left (withRow (now (self .entry) .table) channel rate first) (now (self .entry) .table) ⌝ }

@@ -9,7 +9,7 @@ use crate::row::Row;
 use crate::table;
 
 impl Draft {
-    // Seals the draft, which is used up.
+    /// Seals the draft, which is used up.
     pub fn seal(self) -> Plan
         ensures { λ r. ⌜ r .table ≡ self .table ⌝ }
     {
@@ -20,10 +20,11 @@ impl Draft {
 }
 
 impl Plan {
-    // The channel that owns a slot of the frame.
+    /// The channel that owns a slot of the frame.
     pub fn owner(&self, slot: u16) -> Option<u16>
         ensures value { λ r. ⌜ r ≡ ownerOf (now (self .entry) .table) slot ⌝ }
         ensures exact { λ r. ⌜ ((c : ℕ) → OwnerIs (now (self .entry) .table) slot r c) ⌝ }
+        ensures known { λ r. ⌜ Cases r (Unit {0}) (λ c. (0 < c) × (c ≤ 80)) ⌝ }
     {
         if slot < 240 {
             self.owners[slot as usize]
@@ -32,7 +33,7 @@ impl Plan {
         }
     }
 
-    // The row of a channel.
+    /// The row of a channel.
     pub fn row(&self, channel: u16) -> Option<Row>
         ensures { λ r. ⌜ r ≡ rowOf (now (self .entry) .table) channel ⌝ }
     {
@@ -46,7 +47,7 @@ impl Plan {
         }
     }
 
-    // The row of the lowest channel above this one.
+    /// The row of the lowest channel above this one.
     pub fn row_after(&self, channel: u16) -> Option<Row>
         ensures next { λ r. ⌜ NextRow (now (self .entry) .table) channel r ⌝ }
         ensures above { λ r. ⌜ Cases r (Unit {0}) (λ row. (channel < row .channel) × (row .channel ≤ 80)) ⌝ }

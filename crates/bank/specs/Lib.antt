@@ -1,0 +1,4 @@
+pub mod Code
+pub mod Meaning
+pub mod Channels
+pub mod Runs

@@ -1,0 +1,4 @@
+pub mod Register
+pub mod Pattern
+pub mod Meaning
+pub mod Standing

@@ -1,0 +1,15 @@
+use mathlib.Core.Path.{sym, ap, _∙_}
+use lib.ListN.{length}
+use Rattle.queue_bank.proofs.Rowss.{told, told-outside}
+use Rattle.queue_bank.proofs.QueueBank.waiting.Needs as need
+
+pub returns-then-not-is-channel : need.returns-then-not-is-channel
+returns-then-not-is-channel c =
+    let b = c .args .self .now in
+    sym (ap (λ q. (length (q .outgoing .waiting), length (q .incoming .waiting))) (told-outside (b .rows) (b .memory .now) (c .args .channel) (sym (c .if-not-is-channel .ensures tt))))
+
+pub returns : need.returns
+returns c =
+    let b = c .args .self .now in
+    let all = told (b .rows) (b .memory .now) (c .args .channel) (sym (c .if-not-is-channel .ensures tt)) (c .index-self-channel .result) in
+    (λ i. (c .waiting .ensures .is i, c .waiting-2 .ensures .is i)) ∙ sym (ap (λ q. (length (q .outgoing .waiting), length (q .incoming .waiting))) all)

@@ -1,0 +1,15 @@
+use mathlib.Core.Path.{sym, ap, _∙_}
+use Rattle.queue_bank.specs.Readings.{withCode}
+use Rattle.queue_bank.proofs.Rowss.{told, told-outside}
+use Rattle.queue_bank.proofs.QueueBank.waiting_with.Needs as need
+
+pub returns-then-not-is-channel : need.returns-then-not-is-channel
+returns-then-not-is-channel c =
+    let b = c .args .self .now in
+    sym (ap (λ q. (withCode (c .args .code) (q .outgoing .waiting), withCode (c .args .code) (q .incoming .waiting))) (told-outside (b .rows) (b .memory .now) (c .args .channel) (sym (c .if-not-is-channel .ensures tt))))
+
+pub returns : need.returns
+returns c =
+    let b = c .args .self .now in
+    let all = told (b .rows) (b .memory .now) (c .args .channel) (sym (c .if-not-is-channel .ensures tt)) (c .index-self-channel .result) in
+    (λ i. (c .count-code .ensures .is i, c .count-code-2 .ensures .is i)) ∙ sym (ap (λ q. (withCode (c .args .code) (q .outgoing .waiting), withCode (c .args .code) (q .incoming .waiting))) all)
