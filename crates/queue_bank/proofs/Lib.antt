@@ -1,4 +1,4 @@
 pub mod Accounts
 pub mod Channels
-pub mod Rowss
+pub mod Standings
 pub mod Order

@@ -1,5 +1,5 @@
 use mathlib.Core.Path.{sym, ap}
-use Rattle.queue_bank.proofs.Rowss.{told, told-outside}
+use Rattle.queue_bank.proofs.Standings.{told, told-outside}
 use Rattle.queue_bank.proofs.QueueBank.dropped.Needs as need
 
 pub returns-then-not-is-channel : need.returns-then-not-is-channel

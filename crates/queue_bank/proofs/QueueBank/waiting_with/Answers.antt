@@ -1,6 +1,6 @@
 use mathlib.Core.Path.{sym, ap, _∙_}
 use Rattle.queue_bank.specs.Readings.{withCode}
-use Rattle.queue_bank.proofs.Rowss.{told, told-outside}
+use Rattle.queue_bank.proofs.Standings.{told, told-outside}
 use Rattle.queue_bank.proofs.QueueBank.waiting_with.Needs as need
 
 pub returns-then-not-is-channel : need.returns-then-not-is-channel

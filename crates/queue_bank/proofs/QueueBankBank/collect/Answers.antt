@@ -1,5 +1,5 @@
 use mathlib.Core.Path.{sym, ap, _∙_}
-use Rattle.queue_bank.proofs.Rowss.{collect-means, bank-step}
+use Rattle.queue_bank.proofs.Standings.{collect-means, bank-step}
 use Rattle.queue_bank.proofs.QueueBankBank.collect.Needs as need
 
 pub returns : need.returns

@@ -1,5 +1,5 @@
 use mathlib.Core.Path.{sym}
-use Rattle.queue_bank.proofs.Rowss.{give-means, bank-step, outside-left}
+use Rattle.queue_bank.proofs.Standings.{give-means, bank-step, outside-left}
 use Rattle.queue_bank.proofs.QueueBankBank.give.Needs as need
 
 pub returns : need.returns

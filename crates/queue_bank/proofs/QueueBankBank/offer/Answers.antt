@@ -1,5 +1,5 @@
 use mathlib.Core.Path.{sym, ap, _∙_}
-use Rattle.queue_bank.proofs.Rowss.{offer-means, bank-step, outside-left}
+use Rattle.queue_bank.proofs.Standings.{offer-means, bank-step, outside-left}
 use Rattle.queue_bank.proofs.QueueBankBank.offer.Needs as need
 
 pub returns : need.returns

@@ -1,5 +1,5 @@
 use mathlib.Core.Path.{sym, ap, _∙_}
-use Rattle.queue_bank.proofs.Rowss.{take-means, bank-step}
+use Rattle.queue_bank.proofs.Standings.{take-means, bank-step}
 use Rattle.queue_bank.proofs.QueueBankBank.take.Needs as need
 
 pub returns : need.returns
