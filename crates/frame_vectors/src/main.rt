@@ -4,17 +4,21 @@
 //   offer CHANNEL S OCTET         offers an envelope to its bank
 //   send JUSTIFICATION            sends a frame
 // Each line is printed again, and after `send` the frame, as `frame` and its bits.
+// With a number as its argument it sends so many frames over a pattern bank instead, every slot owned, to measure the time.
 use bank::Bank;
 use bank::Envelope;
 use channel_plan::Draft;
 use channel_plan::Plan;
 use frame::Mode;
 use frame::content::LONGEST;
+use pattern_bank::PatternBank;
+use pattern_bank::PatternBankBank;
 use queue_bank::MEMORY;
 use queue_bank::QueueBank;
 use queue_bank::QueueBankBank;
 use station::Station;
 use std::alloc::Global;
+use std::env;
 use std::error::AnyError;
 use std::io::BufRead;
 use std::io::BufReader;
@@ -152,6 +156,43 @@ fn finish(rt: &LibcRuntime, lines: &[String]) -> Result<(), AnyError> {
     )
 }
 
+// Sends frames into the buffer; how many bits they had.
+fn send_many<B: Bank>(station: &mut Station<B>, buffer: &mut [u8], count: u32) -> usize {
+    let mut bits: usize = 0;
+    for _ in 0..count {
+        if let Ok(length) = station.send(0, buffer) {
+            bits = bits.saturating_add(length);
+        }
+    }
+    bits
+}
+
+// The same of a station over a bank, every slot owned.
+fn measure<B: Bank + Drop>(bank: B, count: u32) -> usize {
+    let mut draft = Draft::new();
+    for slot in 0..80 {
+        let _ = draft.add(slot + 1, 750, slot);
+    }
+    let mut station = Station::placed(draft.seal(), bank, 1, Mode::Synchronous);
+    send_many(&mut station, &mut [0; LONGEST], count)
+}
+
+fn start(rt: &LibcRuntime) -> Result<(), AnyError> {
+    let mut args = env::args(rt)?;
+    let _ = args.next();
+    match args.next() {
+        Some(count) => {
+            let bits = measure(
+                PatternBank::new(),
+                count.as_str().parse::<u32>().unwrap_or(0),
+            );
+            println!(rt, "{bits} bits")?;
+            Ok(())
+        }
+        None => run(rt),
+    }
+}
+
 fn main(rt: LibcRuntime) -> Result<(), AnyError> {
-    rt.report(run(&rt))
+    rt.report(start(&rt))
 }
