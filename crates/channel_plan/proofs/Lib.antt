@@ -3,6 +3,7 @@ pub mod Counting
 pub mod Loading
 pub mod Outcomes
 pub mod Owners
+pub mod Placing
 pub mod Printing
 pub mod Reporting
 pub mod Sharing

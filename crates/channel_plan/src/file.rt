@@ -4,7 +4,7 @@ ghost use mathlib.Core.Path.{_≡_};
 ghost use lib.ListN.{length};
 ghost use Rattle.std.specs.Results.{Cases};
 ghost use Rattle.channel_plan.specs.Files.{ended, valuesOf, wholly, withFile, withLine, withLines};
-ghost use Rattle.channel_plan.specs.Laws.{Accepted};
+ghost use Rattle.channel_plan.specs.Laws.{Accepted, Refused};
 ghost use Rattle.channel_plan.specs.Outcomes.{answer, left};
 ghost use Rattle.plan_text.specs.Pieces.{lines};
 use crate::draft::Draft;
@@ -64,6 +64,7 @@ impl Draft {
         ensures answer { λ r. ⌜ r ≡ answer (withFile (now (self .entry) .table) (now (file .entry))) ⌝ }
         ensures left { λ _. ⌜ now (self .exit) .table ≡ left (withFile (now (self .entry) .table) (now (file .entry))) (now (self .entry) .table) ⌝ }
         ensures rows { λ r. ⌜ Accepted r (now (self .entry) .table) (now (file .entry)) (now (self .exit) .table) ⌝ }
+        ensures place { λ r. ⌜ Refused r (now (file .entry)) ⌝ }
     {
         if file.len() > MAX_FILE {
             return Err(whole(Reason::TooLong));
