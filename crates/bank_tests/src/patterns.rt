@@ -12,7 +12,7 @@ fn marked(octet: u8) -> Option<Envelope> {
     })
 }
 
-pub fn begin() -> bool {
+pub(crate) fn begin() -> bool {
     let mut bank = PatternBank::new();
     bank.take(1) == marked(7) && bank.take(1) == marked(190) && bank.take(80) == marked(7)
 }
@@ -33,7 +33,7 @@ fn give_back(bank: &mut PatternBank, count: u16, inverted: bool) -> Option<Envel
     bank.collect(2)
 }
 
-pub fn compare() -> bool {
+pub(crate) fn compare() -> bool {
     let mut bank = PatternBank::new();
     give_back(&mut bank, 1000, false) == marked(0)
         && give_back(&mut bank, 254, true) == marked(254)
@@ -49,7 +49,7 @@ pub fn compare() -> bool {
         && bank.take(2) == marked(7)
 }
 
-pub fn name_no_channel() -> bool {
+pub(crate) fn name_no_channel() -> bool {
     let mut bank = PatternBank::new();
     let mut passed = true;
     for channel in [0, 81, 65_535] {

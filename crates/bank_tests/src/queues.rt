@@ -27,7 +27,7 @@ fn pass(bank: &mut QueueBank, offers: u16) -> bool {
     passed
 }
 
-pub fn fill(memory: &mut [Envelope]) -> bool {
+pub(crate) fn fill(memory: &mut [Envelope]) -> bool {
     let mut bank = QueueBank::new(memory);
     let mut passed = true;
     for offers in [0, 1, 63, 64, 65] {
@@ -36,7 +36,7 @@ pub fn fill(memory: &mut [Envelope]) -> bool {
     passed
 }
 
-pub fn go_round(memory: &mut [Envelope]) -> bool {
+pub(crate) fn go_round(memory: &mut [Envelope]) -> bool {
     let mut bank = QueueBank::new(memory);
     let mut passed = true;
     for _ in 0..500 {
@@ -59,7 +59,7 @@ fn give(bank: &mut QueueBank, count: u32) -> u16 {
     bank.dropped(80)
 }
 
-pub fn overflow(memory: &mut [Envelope]) -> bool {
+pub(crate) fn overflow(memory: &mut [Envelope]) -> bool {
     let mut bank = QueueBank::new(memory);
     give(&mut bank, 64) == 0
         && give(&mut bank, 65_534) == 65_534
@@ -84,14 +84,14 @@ fn answers_nothing(bank: &mut QueueBank, channel: u16) -> bool {
         && bank.dropped(channel) == 0
 }
 
-pub fn name_no_channel(memory: &mut [Envelope]) -> bool {
+pub(crate) fn name_no_channel(memory: &mut [Envelope]) -> bool {
     let mut bank = QueueBank::new(memory);
     answers_nothing(&mut bank, 0)
         && answers_nothing(&mut bank, 81)
         && answers_nothing(&mut bank, 65_535)
 }
 
-pub fn lack_memory(memory: &mut [Envelope]) -> bool {
+pub(crate) fn lack_memory(memory: &mut [Envelope]) -> bool {
     let mut bank = QueueBank::new(memory);
     bank.give(1, envelope(0));
     !bank.offer(1, envelope(0)) && bank.waiting(1) == (0, 0) && bank.dropped(1) == 1

@@ -2,7 +2,7 @@
 use ring::Ring;
 
 // Two in and two out of a ring of 3 places, many times round, beside another ring that keeps what it holds.
-pub fn go_round(memory: &mut [u32]) -> bool {
+pub(crate) fn go_round(memory: &mut [u32]) -> bool {
     let mut ring = Ring::new(1, 3);
     let mut beside = Ring::new(4, 4);
     let mut passed = beside.put(memory, 77);
@@ -14,7 +14,7 @@ pub fn go_round(memory: &mut [u32]) -> bool {
 }
 
 // A ring of 4 places from place 2 on, over a memory of 5.
-pub fn reach_too_far() -> bool {
+pub(crate) fn reach_too_far() -> bool {
     let mut memory = [0u8; 5];
     let mut ring = Ring::new(2, 4);
     !ring.put(&mut memory, 9) && ring.take(&memory) == None && ring.waiting(&memory) == 0

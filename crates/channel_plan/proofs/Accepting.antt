@@ -13,7 +13,7 @@ use Rattle.std.specs.declared.option.Option.the-variants.{Some, None}
 use Rattle.std.specs.declared.result.Result.{Result}
 use Rattle.std.specs.declared.result.Result.the-variants.{Ok, Err}
 use Rattle.std.proofs.shelf.Lists.{length-set}
-use Rattle.std.proofs.shelf.Tests.{eqb-true, cases-eq, cond-true, cond-false, eq-eqb, ne-eqb}
+use Rattle.std.proofs.shelf.Tests.{cases-eq, cond-true, cond-false, eq-eqb, ne-eqb}
 use Rattle.std.proofs.shelf.Ways.{tells}
 use Rattle.plan_text.specs.declared.header.Column.the-variants.{Channel, Rate, First}
 use Rattle.plan_text.specs.declared.header.Header.{Header}
@@ -23,7 +23,7 @@ use Rattle.channel_plan.specs.declared.rate.Rate.the-variants.{Bps12000, Bps60
 use Rattle.channel_plan.specs.declared.refusal.RowRefusal.{RowRefusal}
 use Rattle.channel_plan.specs.declared.refusal.RowRefusal.the-variants.{NoChannel, FirstSlot, ChannelPresent}
 use Rattle.channel_plan.specs.declared.row.Assignment.{Assignment}
-use Rattle.channel_plan.specs.Adding.{admitted, admittedAt, assigned, conflict, unless, withRow}
+use Rattle.channel_plan.specs.Adding.{admittedAt, assigned, conflict, unless, withRow}
 use Rattle.channel_plan.specs.Files.{Fault, Values, andThen, rowRefused, valuesOf, withLine, withLines, withValues}
 use Rattle.plan_text.specs.Headers.{headerOf, under}
 use Rattle.channel_plan.specs.Laws.{Joins, Says, SomeLine, States}
@@ -32,13 +32,8 @@ use Rattle.channel_plan.specs.Rates.{bits, period, rateOf}
 use Rattle.channel_plan.specs.Tables.{Table, isChannel, rowAt}
 use Rattle.plan_text.proofs.Cuts.{cut-split}
 use Rattle.plan_text.proofs.Options.{none-some}
+use Rattle.channel_plan.proofs.Outcomes.{ok-err, ok-same}
 use Rattle.channel_plan.proofs.Tables.{rowAt-more}
-
-ok-same : {X E : Type 0} {x y : X} → _≡_ {A = Result X E} (Ok x) (Ok y) → x ≡ y
-ok-same p = cc
-
-ok-err : {X E : Type 0} {x : X} {e : E} → _≡_ {A = Result X E} (Err e) (Ok x) → ⊥
-ok-err p = let z : _≡_ {A = ℕ} 0 1 = cc in omega arith
 
 rate-bits : (r : RateType) (n : ℕ) → rateOf n ≡ Some r → bits r ≡ n
 rate-bits Bps12000 n e = grind (arith, tells)
@@ -68,10 +63,10 @@ record Added (t : Table) (channel rate first : ℕ) (u : Table) : Type 0 where
 
 module _ (t : Table) (channel rate first : ℕ) (u : Table) where
   added-at : (r : RateType) (inside below : Bool) (o : Option Assignment) (k : Option RowRefusal) → isChannel channel ≡ inside → rateOf rate ≡ Some r → rowAt t channel ≡ o → assigned (cond inside (cond below (cond (isSome o) (Err ChannelPresent) (unless k (record { rate = r; first = first }))) (Err FirstSlot)) (Err NoChannel)) t channel ≡ Ok u → Added t channel rate first u
-  added-at r false below o k p q w e = absurd (ok-err e)
-  added-at r true false o k p q w e = absurd (ok-err e)
-  added-at r true true (Some b) k p q w e = absurd (ok-err e)
-  added-at r true true None (Some b) p q w e = absurd (ok-err e)
+  added-at r false below o k p q w e = absurd (ok-err (sym e))
+  added-at r true false o k p q w e = absurd (ok-err (sym e))
+  added-at r true true (Some b) k p q w e = absurd (ok-err (sym e))
+  added-at r true true None (Some b) p q w e = absurd (ok-err (sym e))
   added-at r true true None None p q w e = record {
     row = record { rate = r; first = first };
     low = grind (arith, tells);
@@ -87,8 +82,8 @@ module _ (t : Table) (channel rate first : ℕ) (u : Table) where
     where
       at : (inside : Bool) (r : Option RateType) → isChannel channel ≡ inside → rateOf rate ≡ r → assigned (cond inside (admittedAt r t channel first) (Err NoChannel)) t channel ≡ Ok u → Added t channel rate first u
       at inside (Some r) p q e = added-at r inside (ltb first (period r)) (rowAt t channel) (conflict t (record { rate = r; first = first })) p q refl e
-      at true None p q e = absurd (ok-err e)
-      at false None p q e = absurd (ok-err e)
+      at true None p q e = absurd (ok-err (sym e))
+      at false None p q e = absurd (ok-err (sym e))
 
   -- the row is there, and all that was
   joins-row : length t ≡ 80 → Added t channel rate first u → Joins t u (λ c a. (channel ≡ c) × (rate ≡ bits (a .rate)) × (first ≡ a .first))
@@ -116,7 +111,7 @@ unfolding withLine
 line-joins h t line byte text u long e = at (valuesOf text) refl e
   where
     by-row : (v : Values) → valuesOf text ≡ Ok v → (o : Result Table RowRefusal) → withRow t (under h Channel (v .0) (v .1) (v .2)) (under h Rate (v .0) (v .1) (v .2)) (under h First (v .0) (v .1) (v .2)) ≡ o → rowRefused line byte o ≡ Ok u → Joins t u (Says h text) × (length u ≡ 80)
-    by-row v p (Err x) q e = absurd (ok-err e)
+    by-row v p (Err x) q e = absurd (ok-err (sym e))
     by-row v p (Ok w) q e =
         let is : w ≡ u = cc in
         let a = added t (under h Channel (v .0) (v .1) (v .2)) (under h Rate (v .0) (v .1) (v .2)) (under h First (v .0) (v .1) (v .2)) u (q ∙ ap Ok is) in
@@ -135,7 +130,7 @@ line-joins h t line byte text u long e = at (valuesOf text) refl e
             (ap (λ w. under h Channel (w .0) (w .1) (w .2)) same ∙ s .channel, ap (λ w. under h Rate (w .0) (w .1) (w .2)) same ∙ s .rate, ap (λ w. under h First (w .0) (w .1) (w .2)) same ∙ s .first)
 
     at : (o : Result Values Fault) → valuesOf text ≡ o → withValues h t line byte o ≡ Ok u → Joins t u (Says h text) × (length u ≡ 80)
-    at (Err f) p e = absurd (ok-err e)
+    at (Err f) p e = absurd (ok-err (sym e))
     at (Ok v) p e = by-row v p (withRow t (under h Channel (v .0) (v .1) (v .2)) (under h Rate (v .0) (v .1) (v .2)) (under h First (v .0) (v .1) (v .2))) refl e
 
 -- a line more in front
@@ -165,7 +160,7 @@ lines-join h [] t line byte u long e =
 lines-join h (l ∷ ls) t line byte u long e = at (withLine h t line byte l) refl e (λ v. lines-join h ls v (line + 1) (byte + (length l + 1)) u)
   where
     at : (o : Result Table FileRefusal) → withLine h t line byte l ≡ o → andThen o (λ v. withLines h v (line + 1) (byte + (length l + 1)) ls) ≡ Ok u → ((v : Table) → length v ≡ 80 → withLines h v (line + 1) (byte + (length l + 1)) ls ≡ Ok u → Joins v u (SomeLine h ls)) → Joins t u (SomeLine h (l ∷ ls))
-    at (Err f) p e more = absurd (ok-err e)
+    at (Err f) p e more = absurd (ok-err (sym e))
     at (Ok v) p e more = let one = line-joins h t line byte l v long p in joins-more h t v u l ls (one .0) (more v (one .1) e)
 
 -- the lines of a file, under the names of its first

@@ -1,11 +1,11 @@
 -- How many slots of the frame an assignment gives.
 use Prim.Native.Nat.{ℕ, zero, suc, _+_, _/_, _%_, _≤_, _<_}
-use mathlib.Core.Bool.{Bool, true, false, cond, _&&_}
-use mathlib.Core.Path.{_≡_, refl, sym, ap, _∙_}
+use mathlib.Core.Bool.{Bool, true, cond, _&&_}
+use mathlib.Core.Path.{_≡_, refl, ap, _∙_}
 use native.Mathlib.Nat.{mod-lt}
 use native.Mathlib.Omega.{arith}
 use lib.Dec.{eqb}
-use Rattle.std.proofs.shelf.Tests.{cond-false, eqb-true, ne-eqb}
+use Rattle.std.proofs.shelf.Tests.{ne-eqb}
 use Rattle.std.proofs.shelf.Ways.{decides-below-and, decides-eqb}
 use Rattle.channel_plan.specs.declared.rate.Rate.{Rate}
 use Rattle.channel_plan.specs.declared.rate.Rate.the-variants.{Bps12000, Bps6000, Bps3000, Bps750}

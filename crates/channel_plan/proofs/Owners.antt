@@ -1,10 +1,9 @@
 -- The owner that a table answers for a slot is the one channel that has it.
-use Prim.Native.Nat.{ℕ, zero, suc, _+_, _-_, _%_, _≤_, _<_}
-use mathlib.Core.Bool.{Bool, true, false, cond, not, _&&_}
-use mathlib.Core.List.{List, [], _∷_}
+use Prim.Native.Nat.{ℕ, zero, suc, _+_, _-_, _≤_, _<_}
+use mathlib.Core.Bool.{Bool, true, false, cond}
+use mathlib.Core.List.{[], _∷_}
 use mathlib.Core.Path.{_≡_, refl, sym, ap, subst, _∙_}
 use native.Mathlib.Omega.{arith}
-use lib.Dec.{eqb, ltb}
 use lib.ListN.{length, getD}
 use Rattle.std.specs.Options.{Cases}
 use Rattle.std.specs.declared.option.Option.{Option}
@@ -13,9 +12,8 @@ use Rattle.std.proofs.shelf.Tests.{eqb-true, eq-eqb, cond-true, false≢true}
 use Rattle.std.proofs.shelf.Ways.{tells}
 use Rattle.plan_text.proofs.Options.{none-some}
 use Rattle.channel_plan.specs.declared.row.Assignment.{Assignment}
-use Rattle.channel_plan.specs.Rates.{period}
 use Rattle.channel_plan.specs.Rows.{owns}
-use Rattle.channel_plan.specs.Tables.{Table, isChannel, rowAt, passes, holds, ownerFrom, twice, Apart, Owns, OwnerIs}
+use Rattle.channel_plan.specs.Tables.{Table, isChannel, rowAt, passes, holds, ownerFrom, Apart, Owns, OwnerIs}
 
 -- the owner found from channel k on is among the entries, and its row has the slot
 pub record Found (k : ℕ) (t : Table) (s c : ℕ) : Type 0 where

@@ -1,12 +1,11 @@
 -- Where a refused file goes wrong: the sums of lengths are places in its bytes.
-use Prim.Native.Nat.{ℕ, zero, suc, _+_, _<_}
-use mathlib.Core.Bool.{Bool, true, false, cond}
+use Prim.Native.Nat.{ℕ, suc, _+_}
+use mathlib.Core.Bool.{cond}
 use mathlib.Core.List.{List, [], _∷_, _++_}
 use mathlib.Core.Logic.{_⊎_, inl, inr}
 use mathlib.Core.Path.{_≡_, refl, sym, ap, subst, _∙_}
 use native.Mathlib.Omega.{arith}
-use lib.Dec.{eqb}
-use lib.ListN.{getD, length}
+use lib.ListN.{length}
 use Rattle.std.specs.declared.option.Option.{Option}
 use Rattle.std.specs.declared.option.Option.the-variants.{Some, None}
 use Rattle.std.specs.declared.result.Result.{Result}
@@ -18,15 +17,16 @@ use Rattle.plan_text.specs.declared.header.Header.{Header}
 use Rattle.plan_text.specs.Headers.{under}
 use Rattle.plan_text.specs.Numbers.{numberOf}
 use Rattle.plan_text.specs.Pieces.{Split, Three, Without, fields, lines, three}
-use Rattle.plan_text.proofs.Cuts.{Cut, ThreeCut, line-cut, three-cut}
+use Rattle.plan_text.proofs.Cuts.{ThreeCut, line-cut, three-cut}
 use Rattle.channel_plan.specs.declared.refusal.FileRefusal.{FileRefusal}
 use Rattle.channel_plan.specs.declared.refusal.Reason.{Reason}
 use Rattle.channel_plan.specs.declared.refusal.Reason.the-variants.{Fields, Number, Row}
 use Rattle.channel_plan.specs.declared.refusal.RowRefusal.{RowRefusal}
 use Rattle.channel_plan.specs.Adding.{withRow}
 use Rattle.channel_plan.specs.Files.{Fault, Values, andThen, numbered, readFrom, rowRefused, valuesOf, wholly, withLine, withLines, withValues}
-use Rattle.channel_plan.specs.Laws.{EndsWith, FieldPlace, LineBegins, LinePlace, Place, PlaceBy, ends}
+use Rattle.channel_plan.specs.Laws.{EndsWith, FieldPlace, LineBegins, LinePlace, PlaceBy, ends}
 use Rattle.channel_plan.specs.Tables.{Table}
+use Rattle.channel_plan.proofs.Outcomes.{err-same, ok-err}
 
 -- how many lines end
 ends-append : (xs ys : List ℕ) → ends (xs ++ ys) ≡ ends xs + ends ys
@@ -37,12 +37,6 @@ ends-none : (xs : List ℕ) → Without 10 xs → ends xs ≡ 0
 ends-none [] h = refl
 ends-none (x ∷ xs) h =
     ap (λ b. cond b 1 0 + ends xs) (ne-eqb x 10 (h 0 (omega arith))) ∙ omega (arith, ends-none xs (λ k below. h (suc k) (omega arith)))
-
-err-same : {X E : Type 0} {x y : E} → _≡_ {A = Result X E} (Err x) (Err y) → x ≡ y
-err-same e = cc
-
-ok-err : {X E : Type 0} {x : X} {y : E} → _≡_ {A = Result X E} (Ok x) (Err y) → ⊥
-ok-err e = let z : _≡_ {A = ℕ} 0 1 = cc in omega arith
 
 -- a line that begins behind front
 module _ (file front l rest : List ℕ) (line byte : ℕ) (whole : file ≡ front ++ (l ++ (10 ∷ rest))) (at : length front ≡ byte) (counted : ends front + 1 ≡ line) (begins : LineBegins front) (closed : Without 10 l) where

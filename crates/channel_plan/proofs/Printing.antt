@@ -1,8 +1,7 @@
 -- Rows printed one after another.
 use Prim.Native.Nat.{ℕ}
-use mathlib.Core.Bool.{true}
 use mathlib.Core.List.{List, [], _∷_, _++_}
-use mathlib.Core.Path.{_≡_, refl, sym, ap, _∙_}
+use mathlib.Core.Path.{_≡_, refl, sym, _∙_}
 use lib.Chars.{codes}
 use Rattle.std.specs.Written.{Plain, Put}
 use Rattle.std.specs.declared.fmt.Formatter.{Formatter}

@@ -1,10 +1,9 @@
 -- Two assignments share a slot exactly if the first slot of the one with the longer period goes to both.
-use Prim.Native.Nat.{ℕ, _%_, _*_, _≤_, _<_}
+use Prim.Native.Nat.{ℕ, _%_, _≤_, _<_}
 use mathlib.Core.Bool.{Bool, true, false, _&&_}
 use mathlib.Core.Path.{_≡_, refl, sym, subst, _∙_, ap}
 use native.Mathlib.Omega.{arith}
 use native.Mathlib.Nat.{mod-eq-of-lt, mod-lt}
-use lib.Dec.{eqb, ltb}
 use Rattle.std.specs.Orderings.{Decides}
 use Rattle.std.proofs.shelf.Ways.{same-from-decides, decides-below-or, decides-and, decides-eqb, decides-ltb, decides-like, not-from-decides}
 use Rattle.std.proofs.shelf.Tests.{eqb-true}

@@ -1,23 +1,23 @@
 -- Look-ups in a table of rows, and what one row more keeps.
-use Prim.Native.Nat.{ℕ, zero, suc, _+_, _-_, _≤_, _<_}
-use mathlib.Core.Bool.{Bool, true, false, cond, not, _&&_, _||_}
-use mathlib.Core.List.{List, [], _∷_}
-use mathlib.Core.Logic.{_⊎_, inl, inr, ⊎-elim}
+use Prim.Native.Nat.{ℕ, zero, suc, _-_, _≤_, _<_}
+use mathlib.Core.Bool.{Bool, true, false, cond, not, _&&_}
+use mathlib.Core.List.{[], _∷_}
+use mathlib.Core.Logic.{_⊎_, ⊎-elim}
 use mathlib.Core.Path.{_≡_, refl, sym, ap, subst, _∙_}
 use native.Mathlib.Omega.{arith}
 use lib.Dec.{eqb, ltb}
-use lib.ListN.{length, getD, set, drop, replicate}
+use lib.ListN.{length, getD, set, replicate}
 use Rattle.std.specs.declared.option.Option.{Option}
 use Rattle.std.specs.declared.option.Option.the-variants.{Some, None}
-use Rattle.std.proofs.shelf.Lists.{at-drop-more, at-drop-all, getD-set-same, getD-set-other}
-use Rattle.std.proofs.shelf.Tests.{and-right, or-parts, cases-eq, eq-eqb, ne-eqb, cond-true, cond-false, ltb-true, cases-bool}
+use Rattle.std.proofs.shelf.Lists.{getD-set-same, getD-set-other}
+use Rattle.std.proofs.shelf.Tests.{and-right, or-parts, cases-eq, eq-eqb, ne-eqb, cond-true, cond-false}
 use Rattle.std.proofs.shelf.Ways.{tells}
 use Rattle.channel_plan.specs.declared.row.Assignment.{Assignment}
 use Rattle.channel_plan.specs.Rates.{period}
 use Rattle.channel_plan.specs.Rows.{owns, mixes, shares}
 use Rattle.channel_plan.specs.declared.refusal.RowRefusal.the-variants.{GroupRate, SlotTaken}
 use Rattle.channel_plan.specs.Adding.{conflict}
-use Rattle.channel_plan.specs.Tables.{Table, isChannel, rowAt, passes, someRow, holds, ownerFrom, twice, Below, OneRate, Apart}
+use Rattle.channel_plan.specs.Tables.{Table, isChannel, rowAt, passes, someRow, holds, Below, OneRate, Apart}
 use Rattle.channel_plan.proofs.Sharing.{not-shared}
 
 -- no row at all

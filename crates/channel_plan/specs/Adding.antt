@@ -1,6 +1,6 @@
 -- What becomes of a row that is added to a table: the refusals, in their order, or the table with it.
 use Prim.Native.Nat.{ℕ, _-_}
-use mathlib.Core.Bool.{Bool, cond}
+use mathlib.Core.Bool.{cond}
 use lib.Dec.{ltb}
 use lib.ListN.{set}
 use Rattle.std.specs.Options.{isSome}

@@ -1,6 +1,6 @@
 -- The listing of a plan, and how a refusal of a file is told, byte by byte.
 use Prim.Native.Nat.{ℕ}
-use mathlib.Core.List.{List, [], _∷_, _++_}
+use mathlib.Core.List.{List, _++_}
 use lib.Chars.{codes}
 use lib.ListN.{replicate}
 use Rattle.std.specs.Written.{decimal}

@@ -1,6 +1,6 @@
 // The gross rates of channels.
 ghost use mathlib.Core.Path.{_≡_};
-ghost use Rattle.channel_plan.specs.Rates.{bits, period, rateOf, same};
+ghost use Rattle.channel_plan.specs.Rates.{bits, period, rateOf};
 
 /// A gross rate, by its bit/s.
 #[derive(Clone, Copy, PartialEq, Eq)]

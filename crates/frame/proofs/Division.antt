@@ -1,12 +1,12 @@
 -- Division modulo 2: the remainder is linear, it is what a division leaves, and it is the only one.
-use Prim.Native.Nat.{ℕ, zero, suc, _+_, _*_, _/_, _%_, _^_, _<_, _≤_}
+use Prim.Native.Nat.{ℕ, zero, suc, _+_, _*_, _/_, _%_, _<_, _≤_}
 use mathlib.Core.List.{List, [], _∷_}
-use mathlib.Core.Path.{_≡_, refl, sym, ap, ap₂, subst, _∙_}
+use mathlib.Core.Path.{_≡_, refl, sym, ap, ap₂, _∙_}
 use native.Mathlib.Nat.{add-zero, mod-eq-of-lt}
 use native.Mathlib.Omega.{arith}
 use lib.Bits.{bitXor, xor-assoc, xor-comm, xor-shr, xor-mod, xor-block, xor-self, xor-zero-r, xor-zero-l, xor-lt}
 use lib.ListN.{length}
-use Rattle.frame.specs.Checks.{reduce, divide, remainderAfter, remainder, polynomialAfter, polynomial, productAfter, product, flipped, Remainder, CheckOf}
+use Rattle.frame.specs.Checks.{reduce, divide, remainderAfter, remainder, polynomialAfter, productAfter, product, flipped, Remainder, CheckOf}
 
 -- sums modulo 2
 xor-left-comm : (a b c : ℕ) → bitXor a (bitXor b c) ≡ bitXor b (bitXor a c)

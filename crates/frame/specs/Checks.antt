@@ -1,15 +1,11 @@
 -- The check: the remainder of bits, the first of the highest power, by x^16 + x^12 + x^5 + 1 modulo 2.
 use Prim.Native.Nat.{ℕ, _+_, _*_, _/_, _%_, _<_}
-use mathlib.Core.List.{List, [], _∷_, map}
+use mathlib.Core.List.{List, [], _∷_}
 use mathlib.Core.Path.{_≡_}
 use lib.Bits.{bitXor}
 use lib.ListN.{length}
 
--- the divisor: bits 16, 12, 5 and 0
-abbrev pub divisor : ℕ
-divisor = 0x11021
-
--- a dividend of 17 bits less the divisor, where its highest bit is set
+-- a dividend of 17 bits less the divisor, whose bits 16, 12, 5 and 0 are set, where its own bit 16 is
 abbrev pub reduce : ℕ → ℕ
 reduce t = bitXor t (t / 65536 % 2 * 0x11021)
 

@@ -1,5 +1,4 @@
 // Whose the bit at each place of a frame is.
-ghost use Prim.Native.Nat.{ℕ, _≤_};
 ghost use mathlib.Core.Path.{_≡_};
 ghost use Rattle.frame.specs.Places.{OnePlace, OneRole, placeOf, role};
 

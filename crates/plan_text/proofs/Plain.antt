@@ -1,19 +1,18 @@
 -- Plain digits: what a field with a fault in it is, and what a number is written as.
-use Prim.Native.Nat.{ℕ, _+_, _-_, _*_, _^_, _≤_, _<_}
-use mathlib.Core.Bool.{Bool, true, false, cond, not, _&&_}
+use Prim.Native.Nat.{ℕ, _+_, _-_, _*_, _≤_, _<_}
+use mathlib.Core.Bool.{Bool, true, false, cond, _&&_}
 use mathlib.Core.List.{List, [], _∷_}
 use mathlib.Core.Logic.{⊎-elim}
 use mathlib.Core.Path.{_≡_, refl, sym, ap, subst, _∙_}
 use native.Mathlib.Omega.{arith}
 use borrow.Author.Needs.{needs}
-use lib.Dec.{eqb, ltb}
-use lib.ListN.{length, getD}
+use lib.Dec.{ltb}
 use Rattle.std.specs.Written.{decimal}
 use Rattle.std.specs.shelf.Text.{allDigits}
 use Rattle.std.specs.declared.option.Option.{Option}
 use Rattle.std.specs.declared.option.Option.the-variants.{Some, None}
 use Rattle.std.proofs.shelf.Decimals.{decimal-digit, decimal-value, digits-decimal, value-decimal, decimal-some, first-decimal}
-use Rattle.std.proofs.shelf.Numerals.{Numerals, Folds, numerals-by-fold, tells-allDigits}
+use Rattle.std.proofs.shelf.Numerals.{Numerals, numerals-by-fold, tells-allDigits}
 use Rattle.std.proofs.shelf.Tests.{cond-true, cases-eq}
 use Rattle.std.proofs.shelf.Ways.{tells}
 use Rattle.plan_text.proofs.Options.{none-some}

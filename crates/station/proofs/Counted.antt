@@ -12,7 +12,7 @@ use Rattle.std.specs.Options.{Cases}
 use Rattle.std.specs.declared.option.Option.{Option}
 use Rattle.std.specs.declared.option.Option.the-variants.{Some, None}
 use Rattle.std.proofs.shelf.Tests.{cases-eq, cond-false, cond-true, eq-eqb, ne-eqb}
-use Rattle.bank.specs.Meaning.{Accounts, Meaning, afterTake}
+use Rattle.bank.specs.Meaning.{Accounts, Meaning}
 use Rattle.channel_plan.specs.Tables.{Table, ownerOf}
 use Rattle.station.specs.declared.line.ChannelRecord.{ChannelRecord}
 use Rattle.station.specs.declared.line.Line.{Line}

@@ -1,6 +1,6 @@
 -- What a station sends: the words of the slots, from the takes of its bank and its channel records.
 use Prim.Native.Nat.{ℕ, zero, suc, _+_, _*_}
-use mathlib.Core.Bool.{Bool, true, false, cond, not}
+use mathlib.Core.Bool.{Bool, false, cond, not}
 use mathlib.Core.List.{List, [], _∷_, map}
 use lib.Dec.{eqb}
 use Rattle.std.specs.Iters.{counting}

@@ -1,5 +1,4 @@
 use Prim.Native.Nat.{_<_}
-use mathlib.Core.Path.{sym, subst}
 use borrow.Author.Needs.{needs}
 use Rattle.frame.proofs.Division.{divide-high, divide-low, divide-lt}
 use Rattle.frame.proofs.check.divide_on.Needs as need

@@ -1,10 +1,9 @@
-use Prim.Native.Nat.{ℕ, _+_}
-use mathlib.Core.List.{List, [], _∷_}
-use mathlib.Core.Path.{_≡_, refl, sym, ap, subst, _∙_}
-use lib.ListN.{drop, getD, length}
+use Prim.Native.Nat.{_+_}
+use mathlib.Core.Path.{_≡_, sym, ap, subst, _∙_}
+use lib.ListN.{drop, getD}
 use borrow.Author.Needs.{needs}
 use Rattle.std.proofs.shelf.Lists.{at-drop-more, at-drop-all}
-use Rattle.frame.specs.Checks.{CheckOf, divide, remainder, remainderAfter}
+use Rattle.frame.specs.Checks.{CheckOf, remainder, remainderAfter}
 use Rattle.frame.proofs.Division.{check-of, after-more, after-none}
 use Rattle.frame.proofs.check.remainder_of.Needs as need
 

@@ -1,5 +1,5 @@
 use Prim.Native.Nat.{_≤_, _<_}
-use mathlib.Core.Path.{_≡_, sym, _∙_}
+use mathlib.Core.Path.{sym, _∙_}
 use borrow.Author.Needs.{needs}
 use Rattle.channel_plan.specs.declared.row.Assignment.{Assignment}
 use Rattle.channel_plan.proofs.Tables.{below-more, one-rate-more, apart-more, no-conflict}

@@ -1,6 +1,5 @@
 use mathlib.Core.Path.{sym, ap, _∙_}
 use native.Mathlib.Omega.{arith}
-use borrow.Author.Needs.{needs}
 use Rattle.channel_plan.specs.Outcomes.{answer, left}
 use Rattle.plan_text.proofs.Cuts.{length-split}
 use Rattle.channel_plan.proofs.Loading.{lines-end, line-more, line-refused}

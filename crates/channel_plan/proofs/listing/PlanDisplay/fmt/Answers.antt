@@ -1,4 +1,4 @@
-use mathlib.Core.Path.{_≡_, refl, ap, subst, _∙_}
+use mathlib.Core.Path.{refl, ap, subst, _∙_}
 use lib.Chars.{codes}
 use Rattle.std.proofs.Writes.{put-is, put-more}
 use Rattle.channel_plan.specs.Iterating.{toCome}

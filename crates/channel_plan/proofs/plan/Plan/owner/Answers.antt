@@ -5,7 +5,7 @@ use borrow.Author.Needs.{needs}
 use Rattle.std.specs.Options.{Cases}
 use Rattle.std.specs.declared.option.Option.the-variants.{None}
 use Rattle.std.proofs.shelf.Tests.{cond-true, lt-ltb}
-use Rattle.channel_plan.specs.Tables.{OwnerIs, ownerFrom, ownerOf}
+use Rattle.channel_plan.specs.Tables.{OwnerIs, ownerFrom}
 use Rattle.channel_plan.proofs.Owners.{owner-is, owner-known}
 use Rattle.channel_plan.proofs.plan.Plan.owner.Needs as need
 

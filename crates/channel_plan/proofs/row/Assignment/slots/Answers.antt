@@ -1,6 +1,4 @@
-use Prim.Native.Nat.{_≤_, _<_}
 use borrow.Author.Needs.{needs}
-use Rattle.channel_plan.specs.Rates.{period}
 use Rattle.channel_plan.proofs.Counting.{slots-below, slots-above}
 use Rattle.channel_plan.proofs.Sharing.{period-range}
 use Rattle.channel_plan.proofs.row.Assignment.slots.Needs as need

@@ -1,5 +1,3 @@
-use mathlib.Core.Path.{_≡_}
-use lib.ListN.{length}
 use Rattle.frame.specs.Frames.{frameBit}
 use Rattle.frame.proofs.Filled.{Written}
 use Rattle.frame.proofs.content.Content.fill.Given as given

@@ -1,5 +1,4 @@
-use mathlib.Core.Path.{_≡_, sym, ap, _∙_}
-use borrow.Author.Needs.{needs}
+use mathlib.Core.Path.{_≡_, ap, _∙_}
 use Rattle.channel_plan.specs.Tables.{ownerOf}
 use Rattle.frame.specs.declared.content.Content.{Content}
 use Rattle.station.specs.Frames.{nextCheck}
