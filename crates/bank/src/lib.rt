@@ -1,4 +1,6 @@
 // Envelopes, and what every bank behind the channels 1 to 80 shows.
+#![tactic(auto)]
+
 ghost use Rattle.std.specs.Prelude.{◌≡◌};
 ghost use Rattle.bank.specs.Code.{code_of};
 ghost use Rattle.bank.specs.Meaning.{Accounts, Meaning, Laws, is_channel, after_offer, after_collect, after_take, after_give};

@@ -1,4 +1,6 @@
 // Runs the ring and the banks on examples, and prints of each whether it came out as expected.
+#![tactic(auto)]
+
 mod patterns;
 mod queues;
 mod rings;

@@ -1,4 +1,6 @@
 // What a station receives of the frames that another sends.
+#![tactic(auto)]
+
 ghost use Rattle.std.specs.Prelude.{◌≡◌, true};
 ghost use Rattle.bearer.specs.InStep.{StaysInStep};
 

@@ -1,4 +1,6 @@
 // Channel plans: which channel owns which slot of the frame.
+#![tactic(auto)]
+
 pub mod draft;
 pub mod file;
 pub mod listing;

@@ -1,4 +1,6 @@
 // The X.51 frame: whose each bit is, what the padding bits hold, and the check.
+#![tactic(auto)]
+
 pub mod check;
 pub mod content;
 pub mod mode;

@@ -5,6 +5,8 @@
 //   send JUSTIFICATION            sends a frame
 // Each line is printed again, and after `send` the frame, as `frame` and its bits.
 // With a number as its argument it sends so many frames over a pattern bank instead, every slot owned, to measure the time.
+#![tactic(auto)]
+
 use bank::{Bank, Envelope};
 use channel_plan::{Draft, Plan};
 use frame::Mode;

@@ -1,4 +1,6 @@
 // The pattern bank: each channel sends a pattern, and compares what comes with it.
+#![tactic(auto)]
+
 ghost use Rattle.std.specs.Prelude.{◌≡◌};
 ghost use Rattle.bank.specs.Channels.{on_each};
 ghost use Rattle.pattern_bank.specs.Pattern.{fresh, wrong_after};

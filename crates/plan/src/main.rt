@@ -1,4 +1,6 @@
 // Reads a plan file from standard input, and prints the listing of its plan or why it is refused.
+#![tactic(auto)]
+
 use channel_plan::file::MAX_FILE;
 use channel_plan::report_on;
 use std::io::Read;

@@ -1,4 +1,6 @@
 // The bytes of plan files: fields, numbers and the names line.
+#![tactic(auto)]
+
 pub mod header;
 pub mod text;
 

@@ -1,6 +1,8 @@
 // Compares plan files with what should be printed of them: for each line `file TEXT` of standard input
 // it prints that line and then the report on TEXT, in which `\n` stands for byte 10 and `\xHH` for the
 // byte of that hexadecimal number.
+#![tactic(auto)]
+
 ghost use Rattle.std.specs.Prelude.{◌<◌};
 
 use channel_plan::report_on;

@@ -1,4 +1,6 @@
 // The queue bank: for each channel a queue to the line and a queue from it.
+#![tactic(auto)]
+
 ghost use Rattle.std.specs.Prelude.{◌≡◌, ℕ, ◌*◌, ◌<◌, ◌≤◌, length, slice_index_or};
 ghost use Rattle.bank.specs.Channels.{on_each};
 ghost use Rattle.bank.specs.Meaning.{after_offer, after_collect, after_take, after_give};

@@ -9,14 +9,16 @@
 // two come to differ, `pieces differ` is printed.
 // With a number as its argument it receives so many frames over a pattern bank instead, every slot owned, to measure the
 // time.
+#![tactic(auto)]
+
 use bank::{Bank, Envelope};
 use channel_plan::{Draft, Plan};
 use frame::Mode;
 use frame::content::LONGEST;
 use pattern_bank::PatternBank;
 use queue_bank::{MEMORY, QueueBank};
-use station::faults::PLACES;
-use station::{Delivery, Faults, Line, Station};
+use receiving_station::faults::PLACES;
+use receiving_station::{Delivery, Faults, Line, Station};
 use std::alloc::{AllocError, Global};
 use std::env;
 use std::fmt::Write;

@@ -1,4 +1,6 @@
 // Reception of frames, bit by bit, as far as the words of the slots.
+#![tactic(auto)]
+
 pub mod hunt;
 pub mod progress;
 pub mod receiver;

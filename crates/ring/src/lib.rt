@@ -1,4 +1,6 @@
 // The generic queue over a slice that is lent at each call.
+#![tactic(auto)]
+
 ghost use Rattle.std.specs.Prelude.{◌≡◌, ℕ, ◌<◌, ◌≤◌, length, count_by, nat_eq};
 ghost use Rattle.ring.specs.Held.{place_at, reaches, queue, Fresh, Put, Taken};
 
@@ -92,7 +94,7 @@ impl Ring {
 
     /// How many of those that wait have this code.
     pub fn count_code<T: Copy + Coded>(&self, memory: &[T], code: u16) -> usize
-        ensures is { result ≡ count_by (λ x. nat_eq (coded x) code) (queue self.now memory.now).waiting }
+        ensures is { result ≡ count_by (λ x. nat_eq (T.coded x) code) (queue self.now memory.now).waiting }
         ensures within { result ≤ self.now.places }
     {
         if !self.reaches(memory.len()) {

@@ -1,4 +1,6 @@
 // The examples that settle how the rules are read.
+#![tactic(auto)]
+
 ghost use Rattle.std.specs.Prelude.{◌≡◌};
 ghost use Rattle.settled.specs.Examples.{Settled};
 

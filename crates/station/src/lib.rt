@@ -1,17 +1,13 @@
 // A station: a plan, a bank and the two ends of a bearer.
-pub mod event;
-pub mod faults;
-mod hear;
+#![tactic(auto)]
+
 pub mod line;
-pub mod receive;
 pub mod refusal;
 mod send;
 mod sending;
 mod slots;
 mod station;
 
-pub use event::{Delivery, Event, Fault};
-pub use faults::Faults;
-pub use line::{ChannelRecord, Line};
-pub use refusal::{ReceiveRefusal, SendRefusal};
+pub use line::{ChannelRecord, Line, Reception};
+pub use refusal::SendRefusal;
 pub use station::Station;

@@ -1,44 +1,54 @@
-// What a station keeps besides its plan, its bank and its faults.
+// What a station keeps besides its plan and its bank.
 ghost use Rattle.std.specs.Prelude.{◌≡◌, ◌<◌, ◌≤◌};
-ghost use Rattle.station.specs.Lines.{alternated_line, fresh_line, next_bit};
+ghost use Rattle.station.specs.Lines.{alternated_line, fresh_line, is_blocked, next_bit};
 
 use frame::Mode;
-use reception::{Receiver, Reception};
 
-/// What is kept of a channel.
+/// How far reception is.
 #[derive(Clone, Copy)]
-pub struct ChannelRecord {
-    /// the alignment bit of the next envelope sent on it
-    pub sending: bool,
-    /// the alignment bit last received on it, since making or regaining
-    pub received: Option<bool>,
+pub enum Reception {
+    Hunting,
+    Aligned,
 }
 
-/// The plain state of a station: its mode and number, the check bits that its next frame carries, eighty channel records
-/// and its reception.
+/// What is kept of a channel: the alignment bit of the next envelope sent on it.
+#[derive(Clone, Copy)]
+pub struct ChannelRecord {
+    pub sending: bool,
+}
+
+/// The plain state of a station: its mode and number, its reception, the check bits that its next frame carries, and
+/// eighty channel records.
 #[derive(Clone, Copy)]
 pub struct Line {
     pub mode: Mode,
     pub number: u8,
+    pub reception: Reception,
     pub check: u16,
     pub records: [ChannelRecord; 80],
-    pub receiver: Receiver,
 }
 
 impl Line {
     // The state at making.
-    pub(crate) fn new(mode: Mode, number: u8, state: Reception) -> Line
-        ensures { result ≡ fresh_line mode number state }
+    pub(crate) fn new(mode: Mode, number: u8, reception: Reception) -> Line
+        ensures { result ≡ fresh_line mode number reception }
     {
         Line {
             mode,
             number,
+            reception,
             check: 65535,
-            records: [ChannelRecord {
-                sending: true,
-                received: None,
-            }; 80],
-            receiver: Receiver::new(state),
+            records: [ChannelRecord { sending: true }; 80],
+        }
+    }
+
+    // Whether reception is blocked.
+    pub(crate) fn blocked(&self) -> bool
+        ensures { result ≡ is_blocked self.now.reception }
+    {
+        match self.reception {
+            Reception::Hunting => true,
+            Reception::Aligned => false,
         }
     }
 

@@ -61,7 +61,6 @@ impl<B: Bank> Station<B> {
         ensures line { self.new.line ≡ sent_line meaning (owner_of self.old.plan.table) (account self.old.bank) self.old.line (judged self.old.line.mode justification buffer.old) }
         ensures accounts { account self.new.bank ≡ sent_accounts meaning (owner_of self.old.plan.table) (account self.old.bank) self.old.line (judged self.old.line.mode justification buffer.old) }
         ensures plan { self.new.plan ≡ self.old.plan }
-        ensures faults { self.new.faults ≡ self.old.faults }
     {
         match judge(self.line.mode, justification, buffer) {
             Ok(justification) => Ok(self.send_frame(justification, buffer)),
@@ -77,10 +76,9 @@ impl<B: Bank> Station<B> {
         ensures line { self.new.line ≡ sent_line meaning (owner_of self.old.plan.table) (account self.old.bank) self.old.line (Ok justification) }
         ensures accounts { account self.new.bank ≡ sent_accounts meaning (owner_of self.old.plan.table) (account self.old.bank) self.old.line (Ok justification) }
         ensures plan { self.new.plan ≡ self.old.plan }
-        ensures faults { self.new.faults ≡ self.old.faults }
     {
         let mode = self.line.mode;
-        let blocked = self.line.receiver.state.is_blocked();
+        let blocked = self.line.blocked();
         let check = self.line.check;
         let words = self.send_words();
         let content = Content {

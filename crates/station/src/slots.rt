@@ -15,7 +15,6 @@ impl<B: Bank> Station<B> {
         ensures accounts { account self.new.bank ≡ accounts_past meaning (owner_of self.old.plan.table slot) (account self.old.bank) }
         ensures line { self.new.line ≡ line_past (owner_of self.old.plan.table slot) self.old.line }
         ensures plan { self.new.plan ≡ self.old.plan }
-        ensures faults { self.new.faults ≡ self.old.faults }
         ensures known { IfSome (owner_of self.old.plan.table slot) (λ c. (0 < c) × (c ≤ 80)) }
     {
         match self.plan.owner(slot) {
@@ -34,7 +33,6 @@ impl<B: Bank> Station<B> {
         ensures accounts { account self.new.bank ≡ taken_for meaning (owner_of self.old.plan.table) (account self.old.bank) 240 }
         ensures line { self.new.line ≡ with_records (records_for (owner_of self.old.plan.table) self.old.line.records 240) self.old.line }
         ensures plan { self.new.plan ≡ self.old.plan }
-        ensures faults { self.new.faults ≡ self.old.faults }
     {
         let mut words = [0; 240];
         for slot in 0..240u16 {

@@ -8,7 +8,7 @@ pub loop-bit-preserved : goal.loop-bit-preserved
 loop-bit-preserved c =
     let xs = c.args.bits.now in
     let i = c.loop-bit.bit-index in
-    ap (λ r. remainder_after r (drop (i + 1) xs)) c.divide-on-rest.ensures ∙ sym (after_more c.loop-bit.rest (get_or xs i 0) (drop (i + 1) xs)) ∙ sym (at_drop_more (remainder_after c.loop-bit.rest) xs i 0 c.loop-bit-test.true) ∙ c.loop-bit.invariant
+    ap (λ r. remainder_after r (drop (i + 1) xs)) c.divide_on-rest.ensures ∙ sym (after_more c.loop-bit.rest (get_or xs i 0) (drop (i + 1) xs)) ∙ sym (at_drop_more (remainder_after c.loop-bit.rest) xs i 0 c.loop-bit-test.true) ∙ c.loop-bit.invariant
 
 pub returns : goal.returns
 returns c =

@@ -14,6 +14,6 @@ returns-in-Some-split-once-2 c = record { parts = three_long c.args.line.now _ _
 
 pub returns-in-None : goal.returns-in-None
 returns-in-None c = record {
-  parts = three_parts c.args.line.now _ _ c.in-Some.ensures _ _ c.in-Some-split-once.ensures c.in-None.ensures;
-  long = omega (arith, length_split 44 c.args.line.now _ _ c.in-Some.ensures, length_split 44 _ _ _ c.in-Some-split-once.ensures);
+  parts = three_parts c.args.line.now _ _ c.in-Some.ensures _ _ c.in-Some-split_once.ensures c.in-None.ensures;
+  long = omega (arith, length_split 44 c.args.line.now _ _ c.in-Some.ensures, length_split 44 _ _ _ c.in-Some-split_once.ensures);
 }

@@ -16,7 +16,6 @@ loop-slot-init g c =
       sym (taken_none g.B.Bank.meaning owner (g.B.Bank.account s.bank)),
       sym (ap (λ rs. with_records rs s.line) (records_none owner 1 s.line.records)),
       refl,
-      refl,
     )
 
 pub loop-slot-preserved : goal.loop-slot-preserved
@@ -39,7 +38,6 @@ loop-slot-preserved g c =
       turn_accounts m t.plan.table s.plan.table same f held t.line s.line k accounts line (g.B.Bank.account after.bank) says.accounts,
       turn_line m t.plan.table s.plan.table same f held t.line s.line k accounts line after.line says.line says.known,
       search rules,
-      search rules,
     )
 
 pub returns : goal.returns
@@ -55,5 +53,4 @@ returns g c =
       accounts = c.loop-slot.invariant.2 ∙ ap (taken_for m owner f) all;
       line = c.loop-slot.invariant.3 ∙ ap (λ k. with_records (records_for owner s.line.records k) s.line) all;
       plan = c.loop-slot.invariant.4;
-      faults = c.loop-slot.invariant.5;
     }

@@ -16,4 +16,3 @@ invariant-loop-slot g l =
     × (bank.account l.self.bank ≡ taken_for bank.meaning owner f l.slot)
     × (l.self.line ≡ with_records (records_for owner rs l.slot) l.initial.self.line)
     × (l.self.plan ≡ l.initial.self.plan)
-    × (l.self.faults ≡ l.initial.self.faults)

@@ -1,0 +1,97 @@
+// Sending a frame.
+ghost use Rattle.std.specs.Prelude.{◌≡◌, ◌≤◌, length, Ok};
+ghost use Rattle.channel_plan.specs.Tables.{owner_of};
+ghost use Rattle.frame.specs.Modes.{frame_length};
+ghost use Rattle.receiving_station.specs.Frames.{allowed, judged, next_check, sent_accounts, sent_answer, sent_buffer, sent_line};
+
+use crate::refusal::SendRefusal;
+use crate::station::Station;
+use bank::Bank;
+use frame::check::remainder_of;
+use frame::content::LONGEST;
+use frame::{Content, Justification, Mode};
+
+// The justification by its number, where the mode allows it.
+fn allowed(mode: Mode, number: i8) -> Option<Justification>
+    ensures { result ≡ allowed mode number }
+{
+    match mode {
+        Mode::Synchronous => {
+            if number == 0 {
+                Some(Justification::Unchanged)
+            } else {
+                None
+            }
+        }
+        Mode::Justified => Justification::from_number(number),
+    }
+}
+
+// The justification of the frame, or why none is sent.
+fn judge(mode: Mode, number: i8, buffer: &[u8]) -> Result<Justification, SendRefusal>
+    ensures { result ≡ judged mode number buffer.now }
+{
+    match allowed(mode, number) {
+        None => Err(SendRefusal::Justification),
+        Some(justification) => {
+            if buffer.len() < LONGEST {
+                Err(SendRefusal::Buffer)
+            } else {
+                Ok(justification)
+            }
+        }
+    }
+}
+
+// The check bits of the frame after this one.
+fn next_check(mode: Mode, frame: &[u8]) -> u16
+    ensures { result ≡ next_check mode frame.now }
+{
+    match mode {
+        Mode::Synchronous => remainder_of(frame),
+        Mode::Justified => 65535,
+    }
+}
+
+impl<B: Bank> Station<B> {
+    /// Sends a frame into the front of the buffer, and answers how many bits it has; or refuses, and leaves everything.
+    pub fn send(&mut self, justification: i8, buffer: &mut [u8]) -> Result<usize, SendRefusal>
+        ensures answer { result ≡ sent_answer (judged self.old.line.mode justification buffer.old) }
+        ensures buffer { buffer.new ≡ sent_buffer meaning (owner_of self.old.plan.table) (account self.old.bank) self.old.line (judged self.old.line.mode justification buffer.old) buffer.old }
+        ensures line { self.new.line ≡ sent_line meaning (owner_of self.old.plan.table) (account self.old.bank) self.old.line (judged self.old.line.mode justification buffer.old) }
+        ensures accounts { account self.new.bank ≡ sent_accounts meaning (owner_of self.old.plan.table) (account self.old.bank) self.old.line (judged self.old.line.mode justification buffer.old) }
+        ensures plan { self.new.plan ≡ self.old.plan }
+        ensures faults { self.new.faults ≡ self.old.faults }
+    {
+        match judge(self.line.mode, justification, buffer) {
+            Ok(justification) => Ok(self.send_frame(justification, buffer)),
+            Err(refusal) => Err(refusal),
+        }
+    }
+
+    // Sends a frame into a buffer that is long enough.
+    fn send_frame(&mut self, justification: Justification, buffer: &mut [u8]) -> usize
+        requires { 2561 ≤ length buffer.old }
+        ensures answer { result ≡ frame_length justification }
+        ensures buffer { buffer.new ≡ sent_buffer meaning (owner_of self.old.plan.table) (account self.old.bank) self.old.line (Ok justification) buffer.old }
+        ensures line { self.new.line ≡ sent_line meaning (owner_of self.old.plan.table) (account self.old.bank) self.old.line (Ok justification) }
+        ensures accounts { account self.new.bank ≡ sent_accounts meaning (owner_of self.old.plan.table) (account self.old.bank) self.old.line (Ok justification) }
+        ensures plan { self.new.plan ≡ self.old.plan }
+        ensures faults { self.new.faults ≡ self.old.faults }
+    {
+        let mode = self.line.mode;
+        let blocked = self.line.receiver.state.is_blocked();
+        let check = self.line.check;
+        let words = self.send_words();
+        let content = Content {
+            blocked,
+            check,
+            justification,
+            words,
+        };
+        let _ = content.fill(mode, buffer);
+        let length = justification.frame_length();
+        self.line.check = next_check(mode, &buffer[0..length]);
+        length
+    }
+}
