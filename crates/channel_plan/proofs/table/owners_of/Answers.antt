@@ -8,5 +8,5 @@ loop-slot-preserved c =
     let i = c.loop-slot.slot in
     let more = fill_by_more (owner_from 1 c.args.table.now) c.loop-slot.owners i None (search rules) c.loop-slot.invariant.1 in (
       search rules,
-      subst (λ o. (s : ℕ) → s < i + 1 → get_or (set c.loop-slot.owners i o) s None ≡ owner_from 1 c.args.table.now s) (sym c.owner-among.ensures) more,
+      subst (λ o. (s : ℕ) → s < i + 1 → get_or (set c.loop-slot.owners i o) s None ≡ owner_from 1 c.args.table.now s) (sym c.owner_among.ensures) more,
     )

@@ -2,8 +2,8 @@ use Rattle.std.proofs.Common.{◌<◌, rules}
 use Rattle.frame.proofs.Division.{divide_high, divide_low, divide_lt}
 use Rattle.frame.proofs.check.divide_on.Goals as goal
 
-pub overflow-cast-result-else-dividend-lt65536 : goal.overflow-cast-result-else-dividend-lt65536
-overflow-cast-result-else-dividend-lt65536 c =
+pub overflow_cast-result-else-dividend-lt65536 : goal.overflow_cast-result-else-dividend-lt65536
+overflow_cast-result-else-dividend-lt65536 c =
     let small : c.args.rest < 65536 = search rules in
     let is = divide_high c.args.rest c.args.bit (search rules) small in
     let low = divide_lt c.args.rest c.args.bit small in

@@ -10,7 +10,7 @@ pub returns : goal.returns
 returns c =
     let cs = c.args.self.now.channels in
     let n = c.args.channel in
-    let t : is_channel n ≡ true = sym c.if-not-is-channel.ensures in
+    let t : is_channel n ≡ true = sym c.if-not-is_channel.ensures in
     let len : length cs ≡ 80 = search rules in
     let z : Channel = record { sending = 0; comparing = 0; wrong = 0 } in
     let means = collected_is cs n len t z in

@@ -2,11 +2,11 @@ use Rattle.std.proofs.Common.{◌≡◌, suc, ◌+◌, ◌-◌, ◌*◌, ◌^◌
 use Rattle.pattern_bank.specs.Register.{stages, bits_from}
 use Rattle.pattern_bank.proofs.register.next_octet.Goals as goal
 
-pub overflow-mul-octet : goal.overflow-mul-octet
-overflow-mul-octet c = let p : 2 ^ c.loop-k.-k ≤ 2 ^ 7 = pow_mono {j = 7} (omega arith) in search rules
+pub overflow_mul-octet : goal.overflow_mul-octet
+overflow_mul-octet c = let p : 2 ^ c.loop-k.-k ≤ 2 ^ 7 = pow_mono {j = 7} (omega arith) in search rules
 
-pub overflow-add-octet : goal.overflow-add-octet
-overflow-add-octet c = let p : 2 ^ c.loop-k.-k ≤ 2 ^ 7 = pow_mono {j = 7} (omega arith) in search rules
+pub overflow_add-octet : goal.overflow_add-octet
+overflow_add-octet c = let p : 2 ^ c.loop-k.-k ≤ 2 ^ 7 = pow_mono {j = 7} (omega arith) in search rules
 
 pub loop-k-preserved : goal.loop-k-preserved
 unfolding bits_from
@@ -16,13 +16,13 @@ loop-k-preserved c =
     let double : 2 ^ (k + 1) ≡ 2 ^ k * 2 = pow-add 2 k 1 in
     let more : 8 - k ≡ suc (8 - (k + 1)) = omega arith in (
       omega arith,
-      ap₂ (λ b r. bits_from (8 - (k + 1)) (o * 2 + b) r) c.next-bit.ensures.is c.shift-left.ensures
+      ap₂ (λ b r. bits_from (8 - (k + 1)) (o * 2 + b) r) c.next_bit.ensures.is c.shift-left.ensures
           ∙ sym (ap (λ n. bits_from n o (stages c.loop-k.left)) more)
           ∙ c.loop-k.invariant.1,
     )
 
-pub overflow-cast-result : goal.overflow-cast-result
-overflow-cast-result c = let p : 2 ^ c.loop-k.-k ≤ 2 ^ 8 = pow_mono {j = 8} (omega arith) in search rules
+pub overflow_cast-result : goal.overflow_cast-result
+overflow_cast-result c = let p : 2 ^ c.loop-k.-k ≤ 2 ^ 8 = pow_mono {j = 8} (omega arith) in search rules
 
 pub returns : goal.returns
 unfolding bits_from

@@ -5,8 +5,8 @@ use Rattle.plan_text.specs.Numbers.{reading}
 use Rattle.plan_text.proofs.Plain.{reading_ge}
 use Rattle.plan_text.proofs.text.digits.Goals as goal
 
-pub returns-then-not-is-ascii-digit : goal.returns-then-not-is-ascii-digit
-returns-then-not-is-ascii-digit c =
+pub returns-then-not-is_ascii_digit : goal.returns-then-not-is_ascii_digit
+returns-then-not-is_ascii_digit c =
     let f = c.args.field.now in
     let i = c.loop-byte.byte-index in
     let d = at_drop_more all_ascii_digits f i 0 c.loop-byte-test.true in

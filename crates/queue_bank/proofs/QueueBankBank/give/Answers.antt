@@ -7,7 +7,7 @@ returns c =
     let rows = c.args.self.now.rows in
     let m = c.args.self.now.memory.now in
     let n = c.args.channel in
-    let t = sym c.if-not-is-channel.ensures in
+    let t = sym c.if-not-is_channel.ensures in
     let d = c.index-self-i.result in
     record {
       left = bank_step rows m n t d c.give.new.self c.give.new.memory _ c.give.ensures _ (give_means rows m n t d c.args.e);

@@ -7,7 +7,7 @@ returns c =
     let rows = c.args.self.now.rows in
     let m = c.args.self.now.memory.now in
     let n = c.args.channel in
-    let t = sym c.if-not-is-channel.ensures in
+    let t = sym c.if-not-is_channel.ensures in
     let d = c.index-self-i.result in
     let means = take_means rows m n t d in
     record {

@@ -9,8 +9,8 @@ use Rattle.channel_plan.proofs.Placing.{refused_file, refused_whole}
 use Rattle.channel_plan.proofs.Outcomes.{was_err, was_ok}
 use Rattle.channel_plan.proofs.draft.Draft.load.Goals as goal
 
-pub returns-then-file-gt-MAX-FILE : goal.returns-then-file-gt-MAX-FILE
-returns-then-file-gt-MAX-FILE c =
+pub returns-then-file-gt-MAX_FILE : goal.returns-then-file-gt-MAX_FILE
+returns-then-file-gt-MAX_FILE c =
     let is = file_long c.args.self.now.table c.args.file.now (search rules) in
     let place = refused_whole c.args.file.now TooLong c.whole.result (refl, refl) c.whole.ensures in
     search rules
@@ -21,26 +21,26 @@ returns-then-not-ended c =
     let place = refused_whole c.args.file.now NotEnded _ (refl, refl) c.whole-then-not-ended.ensures in
     search rules
 
-pub returns-in-default : goal.returns-in-default
-returns-in-default c =
-    let is = file_empty c.args.self.now.table c.args.file.now (search rules) (search rules) c.in-default.ensures in
-    let place = refused_whole c.args.file.now Names _ (refl, refl) c.whole-in-default.ensures in
+pub returns-in_default : goal.returns-in_default
+returns-in_default c =
+    let is = file_empty c.args.self.now.table c.args.file.now (search rules) (search rules) c.in_default.ensures in
+    let place = refused_whole c.args.file.now Names _ (refl, refl) c.whole-in_default.ensures in
     search rules
 
-pub returns-in-default-read : goal.returns-in-default-read
-returns-in-default-read c =
+pub returns-in_default-read : goal.returns-in_default-read
+returns-in_default-read c =
     let is = file_named c.args.self.now.table c.args.file.now (search rules) (search rules) _ _ c.in-Some.ensures in
-    let place = refused_whole c.args.file.now Names _ (refl, refl) c.whole-in-default-read.ensures in
+    let place = refused_whole c.args.file.now Names _ (refl, refl) c.whole-in_default-read.ensures in
     search rules
 
-pub add-lines-requires : goal.add-lines-requires
-add-lines-requires c = omega (arith, length_split 10 c.args.file.now _ _ c.in-Some.ensures)
+pub add_lines-requires : goal.add_lines-requires
+add_lines-requires c = omega (arith, length_split 10 c.args.file.now _ _ c.in-Some.ensures)
 
 pub returns-in-Ok : goal.returns-in-Ok
 returns-in-Ok c =
     let t = c.args.self.now.table in
     let all = file_lines t c.args.file.now (search rules) (search rules) _ _ c.in-Some-read.header c.in-Some.ensures c.in-Some-read.ensures in
-    let u = c.add-lines.new.self.table in
+    let u = c.add_lines.new.self.table in
     let by_lines = was_ok _ t c.in-Ok.ensures.answer ∙ ap Ok (sym c.in-Ok.ensures.left) in
     record {
       answer = c.in-Ok.ensures.answer ∙ ap answer (sym all);

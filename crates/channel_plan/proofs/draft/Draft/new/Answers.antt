@@ -2,5 +2,5 @@ use Rattle.std.proofs.Common.{refl}
 use Rattle.channel_plan.proofs.Tables.{below_none, one_rate_none, apart_none}
 use Rattle.channel_plan.proofs.draft.Draft.new.Goals as goal
 
-pub invariant-of-result : goal.invariant-of-result
-invariant-of-result c = (below_none, (one_rate_none, (apart_none, (refl, tt))))
+pub invariant_of-result : goal.invariant_of-result
+invariant_of-result c = (below_none, (one_rate_none, (apart_none, (refl, tt))))

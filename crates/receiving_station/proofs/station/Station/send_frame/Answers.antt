@@ -16,17 +16,17 @@ returns g c =
     let j = c.args.justification in
     let old = c.args.buffer.now in
     let new = c.fill.new.buffer in
-    let content : Content = record { blocked = c.is-blocked-blocked.result; check = l.check; justification = j; words = c.send-words-words.result } in
-    let is : content ≡ content_of m owner f l j = λ i. record { blocked = c.is-blocked-blocked.ensures i; check = l.check; justification = j; words = c.send-words-words.ensures.words i } in
+    let content : Content = record { blocked = c.is_blocked-blocked.result; check = l.check; justification = j; words = c.send_words-words.result } in
+    let is : content ≡ content_of m owner f l j = λ i. record { blocked = c.is_blocked-blocked.ensures i; check = l.check; justification = j; words = c.send_words-words.ensures.words i } in
     let put = written m owner f l j content is old new c.requires c.fill.ensures.buffer in
-    let size = c.frame-length-length.ensures in
-    let check = c.next-check-self.ensures ∙ ap (next_check l.mode) (front m owner f l j content is old new c.frame-length-length.result size put) in
-    let left = c.send-words-words.ensures.line in
+    let size = c.frame_length-length.ensures in
+    let check = c.next_check-self.ensures ∙ ap (next_check l.mode) (front m owner f l j content is old new c.frame_length-length.result size put) in
+    let left = c.send_words-words.ensures.line in
     record {
       answer = size;
       buffer = put;
       line = λ i. record { mode = (left i).mode; number = (left i).number; check = check i; records = (left i).records; receiver = (left i).receiver };
-      accounts = c.send-words-words.ensures.accounts;
-      plan = c.send-words-words.ensures.plan;
-      faults = c.send-words-words.ensures.faults;
+      accounts = c.send_words-words.ensures.accounts;
+      plan = c.send_words-words.ensures.plan;
+      faults = c.send_words-words.ensures.faults;
     }

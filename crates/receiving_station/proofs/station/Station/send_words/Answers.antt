@@ -30,9 +30,9 @@ loop-slot-preserved g c =
     let same = ap (λ p. p.table) c.loop-slot.invariant.4 in
     let accounts = c.loop-slot.invariant.2 in
     let line = c.loop-slot.invariant.3 in
-    let says = c.send-slot.ensures in
-    let after = c.send-slot.new.self in
-    let word = turn_word m t.plan.table s.plan.table same f held t.line s.line k accounts line c.send-slot.result says.word in
+    let says = c.send_slot.ensures in
+    let after = c.send_slot.new.self in
+    let word = turn_word m t.plan.table s.plan.table same f held t.line s.line k accounts line c.send_slot.result says.word in
     let more = fill_by_more (word_at m (owner_of s.plan.table) f s.line.records) c.loop-slot.words k 0 (search rules) c.loop-slot.invariant.1 in (
       search rules,
       subst (λ w. (i : ℕ) → i < k + 1 → get_or (set c.loop-slot.words k w) i 0 ≡ word_at m (owner_of s.plan.table) f s.line.records i) (sym word) more,

@@ -36,9 +36,9 @@ pub returns-in-Pattern-false : goal.returns-in-Pattern-false
 unfolding conclusion stepped
 returns-in-Pattern-false c = with_law _ _ _ _ _ (search rules) (search rules)
 
-pub returns-in-default : goal.returns-in-default
+pub returns-in_default : goal.returns-in_default
 unfolding conclusion stepped
-returns-in-default c = with_law _ _ _ _ _ (search rules) (search rules)
+returns-in_default c = with_law _ _ _ _ _ (search rules) (search rules)
 
 pub returns-in-Proving-Payload : goal.returns-in-Proving-Payload
 unfolding conclusion stepped
@@ -48,9 +48,9 @@ pub returns-in-Proving-Added : goal.returns-in-Proving-Added
 unfolding conclusion stepped
 returns-in-Proving-Added c = with_law _ _ _ _ _ (search rules) (search rules)
 
-pub returns-in-Pattern-true-hear-padding : goal.returns-in-Pattern-true-hear-padding
+pub returns-in-Pattern-true-hear_padding : goal.returns-in-Pattern-true-hear_padding
 unfolding conclusion stepped
-returns-in-Pattern-true-hear-padding c = with_law _ _ _ _ _ (search rules) (search rules)
+returns-in-Pattern-true-hear_padding c = with_law _ _ _ _ _ (search rules) (search rules)
 
 pub returns-then-wrong-lt2 : goal.returns-then-wrong-lt2
 unfolding conclusion stepped
@@ -60,9 +60,9 @@ pub returns-else-wrong-lt2 : goal.returns-else-wrong-lt2
 unfolding conclusion stepped
 returns-else-wrong-lt2 c = with_law _ _ _ _ _ (search rules) (search rules)
 
-pub returns-in-default-hear-padding : goal.returns-in-default-hear-padding
+pub returns-in_default-hear_padding : goal.returns-in_default-hear_padding
 unfolding conclusion stepped
-returns-in-default-hear-padding c = with_law _ _ _ _ _ (search rules) (search rules)
+returns-in_default-hear_padding c = with_law _ _ _ _ _ (search rules) (search rules)
 
 pub returns-in-Aligned-Payload : goal.returns-in-Aligned-Payload
 unfolding conclusion stepped
