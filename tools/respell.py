@@ -34,10 +34,10 @@ OTHERS = {
     "getD-none": "get_or_none",
 }
 
-WORD = re.compile(r'[^\s(){}.;,@"«»`]+')
+WORD = re.compile(r'[^\s(){}.;:,@"«»`]+')
 DECLARED = re.compile(r"^[ \t]*(?:(?:abbrev|unfoldable|pub|ruleset) )*([a-z][^\s:(){}.;,]*)(?:[ \t]+[({][^=\n]*?[)}])*[ \t]*:(?![:=])[ \t]*([^\n]*)", re.M)
 QUIET = re.compile(r'"(?:[^"\\\n]|\\.)*"')
-CLAUSE = re.compile(r"ghost\s+use\b[^;]*;|(?:\brequires|\bensures|\bghost)\s*\*?\s*(?:\w+\s*)?:?\s*\{")
+CLAUSE = re.compile(r"ghost\s+use\b[^;]*;|(?:\brequires|\bensures|\bghost)\s*\*?\s*(?:\w+\s*)?[:=]?\s*\{")
 
 
 def snake(name):

@@ -9,7 +9,7 @@ use crate::row::Assignment;
 pub struct Draft {
     pub(crate) table: [Option<Assignment>; 80],
     ghost below: { Below table },
-    ghost oneRate: { OneRate table },
+    ghost one_rate: { OneRate table },
     ghost apart: { Apart table },
     ghost long: { length table ≡ 80 },
 }

@@ -8,7 +8,7 @@ use crate::row::Row;
 use std::fmt;
 
 impl fmt::Display for Row {
-    ghost output = { λ r. Some (rowText r) };
+    ghost output = { λ r. Some (row_text r) };
 
     fn fmt<W: fmt::Write>(&self, f: &mut fmt::Formatter<W>) -> fmt::Result {
         let channel = self.channel;
@@ -33,7 +33,7 @@ impl fmt::Display for Plan {
 }
 
 impl fmt::Display for FileRefusal {
-    ghost output = { λ r. Some (refusalText r) };
+    ghost output = { λ r. Some (refusal_text r) };
 
     fn fmt<W: fmt::Write>(&self, f: &mut fmt::Formatter<W>) -> fmt::Result {
         let number = self.reason.number();

@@ -9,7 +9,7 @@ pub struct Plan {
     table: [Option<Assignment>; 80],
     owners: [Option<u16>; 240],
     ghost below: { Below table },
-    ghost oneRate: { OneRate table },
+    ghost one_rate: { OneRate table },
     ghost apart: { Apart table },
     ghost owned: { Owned table owners },
 }

@@ -58,11 +58,11 @@ fn count_wrong(e: Envelope, expected: u8, wrong: u8) -> u8
 }
 
 impl Bank for PatternBank {
-    ghost account = { accountOf };
+    ghost account = { account_of };
 
-    ghost meaning = { patternMeaning };
+    ghost meaning = { pattern_meaning };
 
-    ghost laws = { patternLaws };
+    ghost laws = { pattern_laws };
 
     fn offer(&mut self, channel: u16, e: Envelope) -> bool {
         if !is_channel(channel) {

@@ -9,7 +9,7 @@ pub struct Channel {
     pub(super) outgoing: Ring,
     pub(super) incoming: Ring,
     pub(super) dropped: u16,
-    ghost outFits: { outgoing.places ≤ 64 },
-    ghost inFits: { incoming.places ≤ 64 },
+    ghost out_fits: { outgoing.places ≤ 64 },
+    ghost in_fits: { incoming.places ≤ 64 },
     ghost beside: { incoming.base ≡ outgoing.base + 64 },
 }

@@ -108,11 +108,11 @@ impl<'a> QueueBank<'a> {
 }
 
 impl<'a> Bank for QueueBank<'a> {
-    ghost account = { accountOf };
+    ghost account = { account_of };
 
-    ghost meaning = { queueMeaning };
+    ghost meaning = { queue_meaning };
 
-    ghost laws = { queueLaws };
+    ghost laws = { queue_laws };
 
     fn offer(&mut self, channel: u16, e: Envelope) -> bool
         ensures answer { result ≡ (queue_meaning.offered channel (account_of self.old channel) e).0 }

@@ -24,7 +24,7 @@ pub struct Fault {
 }
 
 impl Coded for Fault {
-    ghost coded = { faultCode };
+    ghost coded = { fault_code };
 
     fn code(&self) -> u16 {
         self.kind.number() as u16

@@ -3,15 +3,15 @@ use Rattle.pattern_bank.specs.Register.{stages, bits_from}
 use Rattle.pattern_bank.proofs.register.next_octet.Goals as goal
 
 pub overflow_mul-octet : goal.overflow_mul-octet
-overflow_mul-octet c = let p : 2 ^ c.loop-k.-k ≤ 2 ^ 7 = pow_mono {j = 7} (omega arith) in search rules
+overflow_mul-octet c = let p : 2 ^ c.loop-k._k ≤ 2 ^ 7 = pow_mono {j = 7} (omega arith) in search rules
 
 pub overflow_add-octet : goal.overflow_add-octet
-overflow_add-octet c = let p : 2 ^ c.loop-k.-k ≤ 2 ^ 7 = pow_mono {j = 7} (omega arith) in search rules
+overflow_add-octet c = let p : 2 ^ c.loop-k._k ≤ 2 ^ 7 = pow_mono {j = 7} (omega arith) in search rules
 
 pub loop-k-preserved : goal.loop-k-preserved
 unfolding bits_from
 loop-k-preserved c =
-    let k = c.loop-k.-k in
+    let k = c.loop-k._k in
     let o = c.loop-k.octet in
     let double : 2 ^ (k + 1) ≡ 2 ^ k * 2 = pow-add 2 k 1 in
     let more : 8 - k ≡ suc (8 - (k + 1)) = omega arith in (
@@ -22,10 +22,10 @@ loop-k-preserved c =
     )
 
 pub overflow_cast-result : goal.overflow_cast-result
-overflow_cast-result c = let p : 2 ^ c.loop-k.-k ≤ 2 ^ 8 = pow_mono {j = 8} (omega arith) in search rules
+overflow_cast-result c = let p : 2 ^ c.loop-k._k ≤ 2 ^ 8 = pow_mono {j = 8} (omega arith) in search rules
 
 pub returns : goal.returns
 unfolding bits_from
 returns c =
-    let all : 8 - c.loop-k.-k ≡ 0 = omega arith in
+    let all : 8 - c.loop-k._k ≡ 0 = omega arith in
     sym (ap (λ n. bits_from n c.loop-k.octet (stages c.loop-k.left)) all) ∙ c.loop-k.invariant.1

@@ -10,10 +10,10 @@ invariant_of-self c =
     let long = c.args.self.now.long in
     let low : 0 < c.args.channel = search rules in
     let high : c.args.channel ≤ 80 = search rules in
-    let clear = no_conflict t new (sym c.conflict_with.ensures ∙ c.in_default-conflict_with.is) in (
-      below_more t c.args.channel new long low high c.args.self.now.below (search rules),
-      (
-        one_rate_more t c.args.channel new long low high c.args.self.now.one_rate clear.0,
-        (apart_more t c.args.channel new long low high c.args.self.now.apart clear.1, (search rules, tt)),
-      ),
-    )
+    let clear = no_conflict t new (sym c.conflict_with.ensures ∙ c.in_default-conflict_with.is) in
+    record {
+      below = below_more t c.args.channel new long low high c.args.self.now.below (search rules);
+      one_rate = one_rate_more t c.args.channel new long low high c.args.self.now.one_rate clear.0;
+      apart = apart_more t c.args.channel new long low high c.args.self.now.apart clear.1;
+      long = search rules;
+    }
