@@ -134,7 +134,7 @@ impl<B: Bank> Station<B> {
     pub(crate) fn hear(&mut self, bit: u8) -> bool
         ensures answer { result ≡ is_some (event (owner_of self.old.plan.table) self.old.line bit).given }
         ensures line { self.new.line ≡ stepped_line (owner_of self.old.plan.table) self.old.line bit }
-        ensures accounts { account self.new.bank ≡ given_if meaning (event (owner_of self.old.plan.table) self.old.line bit).given (account self.old.bank) }
+        ensures accounts { B.account self.new.bank ≡ given_if B.meaning (event (owner_of self.old.plan.table) self.old.line bit).given (B.account self.old.bank) }
         ensures faults { told_by self.new.faults ≡ noted_if (event (owner_of self.old.plan.table) self.old.line bit).fault (told_by self.old.faults) }
         ensures plan { self.new.plan ≡ self.old.plan }
     {

@@ -43,7 +43,7 @@ impl<B: Bank> Station<B> {
     pub fn receive(&mut self, run: &[u8]) -> Result<(usize, usize), ReceiveRefusal>
         ensures answer { result ≡ received_answer (owner_of self.old.plan.table) (refused_run run.now) self.old.line run.now }
         ensures line { self.new.line ≡ received_line (owner_of self.old.plan.table) (refused_run run.now) self.old.line run.now }
-        ensures accounts { account self.new.bank ≡ received_accounts (owner_of self.old.plan.table) (refused_run run.now) self.old.line run.now meaning (account self.old.bank) }
+        ensures accounts { B.account self.new.bank ≡ received_accounts (owner_of self.old.plan.table) (refused_run run.now) self.old.line run.now B.meaning (B.account self.old.bank) }
         ensures faults { told_by self.new.faults ≡ received_faults (owner_of self.old.plan.table) (refused_run run.now) self.old.line run.now (told_by self.old.faults) }
         ensures plan { self.new.plan ≡ self.old.plan }
         ensures pieces { Pieces (owner_of self.old.plan.table) self.old.line run.now }
@@ -61,7 +61,7 @@ impl<B: Bank> Station<B> {
     fn hear_all(&mut self, run: &[u8]) -> usize
         ensures count { result ≡ length (given (owner_of self.old.plan.table) self.old.line run.now) }
         ensures line { self.new.line ≡ line_after (owner_of self.old.plan.table) self.old.line run.now }
-        ensures accounts { account self.new.bank ≡ give_all meaning (account self.old.bank) (given (owner_of self.old.plan.table) self.old.line run.now) }
+        ensures accounts { B.account self.new.bank ≡ give_all B.meaning (B.account self.old.bank) (given (owner_of self.old.plan.table) self.old.line run.now) }
         ensures faults { told_by self.new.faults ≡ note_all (told_by self.old.faults) (faults_in (owner_of self.old.plan.table) self.old.line run.now) }
         ensures plan { self.new.plan ≡ self.old.plan }
     {

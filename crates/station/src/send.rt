@@ -57,9 +57,9 @@ impl<B: Bank> Station<B> {
     /// Sends a frame into the front of the buffer, and answers how many bits it has; or refuses, and leaves everything.
     pub fn send(&mut self, justification: i8, buffer: &mut [u8]) -> Result<usize, SendRefusal>
         ensures answer { result ≡ sent_answer (judged self.old.line.mode justification buffer.old) }
-        ensures buffer { buffer.new ≡ sent_buffer meaning (owner_of self.old.plan.table) (account self.old.bank) self.old.line (judged self.old.line.mode justification buffer.old) buffer.old }
-        ensures line { self.new.line ≡ sent_line meaning (owner_of self.old.plan.table) (account self.old.bank) self.old.line (judged self.old.line.mode justification buffer.old) }
-        ensures accounts { account self.new.bank ≡ sent_accounts meaning (owner_of self.old.plan.table) (account self.old.bank) self.old.line (judged self.old.line.mode justification buffer.old) }
+        ensures buffer { buffer.new ≡ sent_buffer B.meaning (owner_of self.old.plan.table) (B.account self.old.bank) self.old.line (judged self.old.line.mode justification buffer.old) buffer.old }
+        ensures line { self.new.line ≡ sent_line B.meaning (owner_of self.old.plan.table) (B.account self.old.bank) self.old.line (judged self.old.line.mode justification buffer.old) }
+        ensures accounts { B.account self.new.bank ≡ sent_accounts B.meaning (owner_of self.old.plan.table) (B.account self.old.bank) self.old.line (judged self.old.line.mode justification buffer.old) }
         ensures plan { self.new.plan ≡ self.old.plan }
     {
         match judge(self.line.mode, justification, buffer) {
@@ -72,9 +72,9 @@ impl<B: Bank> Station<B> {
     fn send_frame(&mut self, justification: Justification, buffer: &mut [u8]) -> usize
         requires { 2561 ≤ length buffer.old }
         ensures answer { result ≡ frame_length justification }
-        ensures buffer { buffer.new ≡ sent_buffer meaning (owner_of self.old.plan.table) (account self.old.bank) self.old.line (Ok justification) buffer.old }
-        ensures line { self.new.line ≡ sent_line meaning (owner_of self.old.plan.table) (account self.old.bank) self.old.line (Ok justification) }
-        ensures accounts { account self.new.bank ≡ sent_accounts meaning (owner_of self.old.plan.table) (account self.old.bank) self.old.line (Ok justification) }
+        ensures buffer { buffer.new ≡ sent_buffer B.meaning (owner_of self.old.plan.table) (B.account self.old.bank) self.old.line (Ok justification) buffer.old }
+        ensures line { self.new.line ≡ sent_line B.meaning (owner_of self.old.plan.table) (B.account self.old.bank) self.old.line (Ok justification) }
+        ensures accounts { B.account self.new.bank ≡ sent_accounts B.meaning (owner_of self.old.plan.table) (B.account self.old.bank) self.old.line (Ok justification) }
         ensures plan { self.new.plan ≡ self.old.plan }
     {
         let mode = self.line.mode;

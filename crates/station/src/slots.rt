@@ -11,8 +11,8 @@ use bank::Bank;
 impl<B: Bank> Station<B> {
     // The word of one slot, whose owner is looked up once for its ten bits.
     pub(crate) fn send_slot(&mut self, slot: u16) -> u16
-        ensures word { result ≡ slot_word meaning (account self.old.bank) self.old.line.records (owner_of self.old.plan.table slot) }
-        ensures accounts { account self.new.bank ≡ accounts_past meaning (owner_of self.old.plan.table slot) (account self.old.bank) }
+        ensures word { result ≡ slot_word B.meaning (B.account self.old.bank) self.old.line.records (owner_of self.old.plan.table slot) }
+        ensures accounts { B.account self.new.bank ≡ accounts_past B.meaning (owner_of self.old.plan.table slot) (B.account self.old.bank) }
         ensures line { self.new.line ≡ line_past (owner_of self.old.plan.table slot) self.old.line }
         ensures plan { self.new.plan ≡ self.old.plan }
         ensures known { IfSome (owner_of self.old.plan.table slot) (λ c. (0 < c) × (c ≤ 80)) }
@@ -29,8 +29,8 @@ impl<B: Bank> Station<B> {
 
     // The words of all slots, in their order.
     pub(crate) fn send_words(&mut self) -> [u16; 240]
-        ensures words { result ≡ words meaning (owner_of self.old.plan.table) (account self.old.bank) self.old.line.records }
-        ensures accounts { account self.new.bank ≡ taken_for meaning (owner_of self.old.plan.table) (account self.old.bank) 240 }
+        ensures words { result ≡ words B.meaning (owner_of self.old.plan.table) (B.account self.old.bank) self.old.line.records }
+        ensures accounts { B.account self.new.bank ≡ taken_for B.meaning (owner_of self.old.plan.table) (B.account self.old.bank) 240 }
         ensures line { self.new.line ≡ with_records (records_for (owner_of self.old.plan.table) self.old.line.records 240) self.old.line }
         ensures plan { self.new.plan ≡ self.old.plan }
     {
