@@ -1,5 +1,5 @@
 -- A line in step with a sender stays so over a clean frame, and over any number of them.
-use Rattle.std.proofs.Common.{◌≡◌, ℕ, zero, suc, ◌+◌, ◌-◌, ◌<◌, ◌≤◌, Bool, true, false, List, [], ◌∷◌, ◌++◌, map, length, get_or, replicate, IfSome, Some, None, Ok, Option, sym, refl, ap, ◌∙◌, subst, ap₂, ⊎_elim, arith}
+use Rattle.std.proofs.Common.{◌≡◌, ℕ, suc, ◌+◌, ◌-◌, ◌<◌, ◌≤◌, Bool, true, false, List, [], ◌∷◌, ◌++◌, map, get_or, replicate, IfSome, Some, None, Option, sym, refl, ap, ◌∙◌, subst, ap₂, ⊎_elim, arith}
 use lib.Bits.{bit_xor, xor_self, xor_zero_r}
 use Rattle.std.specs.List.{range_with_len, AllByRecursion as All}
 use Rattle.std.proofs.lemmas.List.FromFn.{get_or-map-range_with_len, length-map-range_with_len}
@@ -19,15 +19,13 @@ use Rattle.frame.proofs.Division.{remainder_is}
 use Rattle.reception.specs.declared.receiver.Conclusion.{Conclusion}
 use Rattle.reception.specs.declared.state.Progress.{Progress}
 use Rattle.reception.specs.declared.state.Receiver.{Receiver}
-use Rattle.reception.specs.declared.state.Reception.{Reception}
 use Rattle.reception.specs.declared.state.Reception.TheVariants.{Aligned}
 use Rattle.reception.specs.Checks.{checking}
 use Rattle.reception.specs.Progresses.{from}
-use Rattle.reception.specs.Steps.{placed_state, with_state}
 use Rattle.receiving_station.specs.declared.line.ChannelRecord.{ChannelRecord}
 use Rattle.receiving_station.specs.declared.line.Line.{Line}
-use Rattle.receiving_station.specs.Frames.{next_check, sent_frame, sent_line}
-use Rattle.receiving_station.specs.Lines.{entry, fresh_line, fresh_record, next_bit}
+use Rattle.receiving_station.specs.Frames.{next_check, sent_frame}
+use Rattle.receiving_station.specs.Lines.{entry, fresh_record, next_bit}
 use Rattle.receiving_station.specs.Receiving.{events, faults_in, given, line_after, parts}
 use Rattle.receiving_station.specs.Sending.{Owners, content_of, records_for, slot_word, taken_for, word_at, words}
 use Rattle.receiving_station.proofs.Counted.{records_none}
@@ -36,7 +34,7 @@ use Rattle.bearer.specs.InStep.{Alternates, Between, Channels, InStep, IsAlarm, 
 use Rattle.bearer.specs.Sent.{Allows, Sender, after_frame, after_frames, bits_sent, envelopes_sent, sent_slots}
 use Rattle.bearer.proofs.Clean.{bare_content, clean_rests, clean_shown, clean_stays, expected_next, is_clean, resting}
 use Rattle.bearer.proofs.Clean.{carried as expecting}
-use Rattle.bearer.proofs.Laden.{Valid, bare, laden, laden_progress, laden_state, laden_word, own_remainder, summed, sums_in}
+use Rattle.bearer.proofs.Laden.{Valid, bare, laden, laden_state, laden_word, own_remainder, summed}
 use Rattle.bearer.proofs.Records.{Quiet, deliveries, faults_over, given_over, line_over, line_with, records_over}
 use Rattle.bearer.proofs.Runs.{Follows, begins, frame_after, frame_lt, frame_remainder, frame_shown, laden_bit, own_frame, receiver_after, shown, stays_over, turned, turned_state}
 use Rattle.bearer.proofs.Slots.{Slots, Synced, length_records, slots, word_lt}

@@ -1,6 +1,6 @@
 -- A receiver of a frame beside a receiver of the bare frame, which has neither words nor check: the one's registers are the
 -- other's with sums of what the words and the check hold.
-use Rattle.std.proofs.Common.{ℕ, zero, suc, ◌-◌, ◌/◌, ◌^◌, ◌<◌, List, [], get_or, Some, None, Option}
+use Rattle.std.proofs.Common.{ℕ, zero, suc, ◌-◌, ◌/◌, ◌^◌, ◌<◌, [], get_or, Some, None, Option}
 use lib.Bits.{bit_xor}
 use Rattle.frame.specs.declared.content.Content.{Content}
 use Rattle.frame.specs.declared.mode.Mode.{Mode}

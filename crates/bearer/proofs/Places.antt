@@ -1,6 +1,6 @@
 -- What each role says of its place: how many payload bits and how many check bits stand before it, and after it.
 use Rattle.std.proofs.Common.{◌≡◌, ℕ, ◌+◌, ◌-◌, ◌*◌, ◌/◌, ◌%◌, ◌<◌, min, eqb, ltb, refl, arith}
-use Rattle.std.proofs.lemmas.Bool.{cond_both, cond-true, eqb-false, eqb-true, lt-ltb}
+use Rattle.std.proofs.lemmas.Bool.{cond_both, eqb-false, eqb-true}
 use Rattle.std.proofs.lemmas.Bool.Decides.{nat_tests}
 use Rattle.frame.specs.declared.mode.Mode.{Mode}
 use Rattle.frame.specs.declared.mode.Mode.TheVariants.{Synchronous, Justified}

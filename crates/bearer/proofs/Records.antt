@@ -1,29 +1,19 @@
 -- A line over a run, by what its receiver shows.
-use Rattle.std.proofs.Common.{◌≡◌, ℕ, zero, suc, ◌+◌, ◌-◌, ◌*◌, ◌/◌, ◌%◌, ◌<◌, ◌≤◌, Bool, true, false, cond, not, ◌&&◌, eqb, List, [], ◌∷◌, ◌++◌, map, length, get_or, set, Some, None, fold, Option, sym, refl, ap, ◌∙◌, subst, ap₂, ⊎_elim, add-one, arith, MatchOption}
-use lib.Bits.{bit_xor, xor_zero_r}
-use Rattle.std.specs.List.{range_with_len, AllByRecursion as All}
+use Rattle.std.proofs.Common.{◌≡◌, ℕ, Bool, true, false, List, [], ◌∷◌, ◌++◌, Some, None, Option, sym, refl, ap, ◌∙◌, subst, ap₂}
+use Rattle.std.specs.List.{AllByRecursion as All}
 use Rattle.std.specs.Option.{option_to_list}
-use Rattle.std.proofs.lemmas.List.FromFn.{get_or-map-range_with_len}
-use Rattle.std.proofs.lemmas.List.{get_or-set_other, get_or-set_same, length-set}
-use Rattle.std.proofs.lemmas.Bool.{and_parts, cases_eq, eqb-true, false≢true}
-use Rattle.bank.specs.declared.Envelope.{Envelope}
-use Rattle.bank.specs.Meaning.{Accounts, Meaning}
-use Rattle.frame.specs.declared.content.Content.{Content}
-use Rattle.frame.specs.declared.mode.Justification.{Justification}
-use Rattle.frame.specs.declared.mode.Mode.{Mode}
+use Rattle.std.proofs.lemmas.Bool.{false≢true}
 use Rattle.reception.specs.declared.receiver.Conclusion.{Conclusion}
 use Rattle.reception.specs.declared.receiver.Conclusion.TheVariants as shows
-use Rattle.reception.specs.declared.receiver.FaultKind.{FaultKind}
-use Rattle.reception.specs.declared.receiver.FaultKind.TheVariants.{Lost, Regained, Check, EnvelopeAlignment, Words, AlarmBegun, AlarmEnded}
+use Rattle.reception.specs.declared.receiver.FaultKind.TheVariants.{EnvelopeAlignment, Words}
 use Rattle.reception.specs.declared.state.Receiver.{Receiver}
 use Rattle.reception.specs.Steps.{conclusion, stepped}
 use Rattle.receiving_station.specs.declared.event.Delivery.{Delivery}
-use Rattle.receiving_station.specs.declared.event.Event.{Event}
 use Rattle.receiving_station.specs.declared.event.Fault.{Fault}
 use Rattle.receiving_station.specs.declared.line.ChannelRecord.{ChannelRecord}
 use Rattle.receiving_station.specs.declared.line.Line.{Line}
-use Rattle.receiving_station.specs.Hearing.{alignment_in, concluded_event, concluded_line, envelope_in, event, fault_at, fault_if, heard_line, received_on, records_past, slot_event, slot_line, stepped_line, was_repeated, with_received}
-use Rattle.receiving_station.specs.Lines.{alternated_record, entry, next_bit, with_receiver, with_records}
+use Rattle.receiving_station.specs.Hearing.{alignment_in, concluded_event, concluded_line, envelope_in, event, fault_at, fault_if, heard_line, received_on, records_past, slot_event, slot_line, stepped_line, was_repeated}
+use Rattle.receiving_station.specs.Lines.{with_records}
 use Rattle.receiving_station.specs.Receiving.{events, faults_in, given, line_after, parts}
 use Rattle.receiving_station.specs.Sending.{Owners}
 use Rattle.bearer.specs.InStep.{IsAlarm}

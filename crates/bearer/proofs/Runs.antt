@@ -1,5 +1,5 @@
 -- A whole frame received, beside the bare frame.
-use Rattle.std.proofs.Common.{◌≡◌, ℕ, zero, suc, ◌+◌, ◌-◌, ◌*◌, ◌/◌, ◌%◌, ◌^◌, ◌<◌, ◌≤◌, Bool, true, false, cond, not, ◌&&◌, eqb, ltb, List, [], ◌∷◌, map, get_or, Some, None, Option, sym, refl, ap, ◌∙◌, subst, ap₂, mod-eq_of_lt, zero-add, add-one, arith}
+use Rattle.std.proofs.Common.{◌≡◌, ℕ, zero, suc, ◌+◌, ◌-◌, ◌/◌, ◌%◌, ◌^◌, ◌<◌, ◌≤◌, Bool, true, false, cond, not, ◌&&◌, eqb, List, [], ◌∷◌, map, get_or, Some, Option, sym, refl, ap, ◌∙◌, subst, ap₂, arith}
 use native.Mathlib.Nat.{div-eq_of_lt}
 use lib.Bits.{bit_xor, xor_assoc, xor_self, xor_zero_l, xor_zero_r}
 use Rattle.std.specs.List.{range_with_len}
@@ -16,7 +16,7 @@ use Rattle.frame.specs.declared.place.Role.{Role}
 use Rattle.frame.specs.declared.place.Role.TheVariants.{Padding, Payload, Added}
 use Rattle.frame.specs.Checks.{divide, remainder, remainder_after}
 use Rattle.frame.specs.Frames.{frame, frame_bit, padding_bit, role_bit, sent_bit}
-use Rattle.frame.specs.Modes.{frame_length, service_word}
+use Rattle.frame.specs.Modes.{frame_length}
 use Rattle.frame.specs.Paddings.{padding}
 use Rattle.frame.specs.Places.{role}
 use Rattle.reception.specs.declared.receiver.Conclusion.{Conclusion}
@@ -24,14 +24,12 @@ use Rattle.reception.specs.declared.state.Progress.{Progress}
 use Rattle.reception.specs.declared.state.Receiver.{Receiver}
 use Rattle.reception.specs.declared.state.Reception.{Reception}
 use Rattle.reception.specs.declared.state.Reception.TheVariants.{Hunting, Pending, Proving, Aligned}
-use Rattle.reception.specs.declared.state.Checking.{Checking}
-use Rattle.reception.specs.Checks.{checking, divided_on, expected_after}
-use Rattle.reception.specs.Progresses.{filled, moved_on, with_check, with_word}
-use Rattle.reception.specs.Steps.{aligned_at, conclusion, counted, step_in, stepped, with_state}
+use Rattle.reception.specs.Checks.{checking, expected_after}
+use Rattle.reception.specs.Progresses.{moved_on, with_check, with_word}
+use Rattle.reception.specs.Steps.{aligned_at, conclusion, counted, stepped, with_state}
 use Rattle.reception.specs.Words.{no_words}
 use Rattle.bearer.proofs.Laden.{Valid, bare, check_front, laden, laden_at, laden_progress, laden_state, laden_word, own_bit, own_padding, own_remainder, summed, sums_in, word_front}
 use Rattle.bearer.proofs.Square.{aligned_step, bare_step, goes_on, remainder_sum, shown_square, stepped_square}
-use Rattle.bearer.proofs.Sums.{bit_sum, divide_sum}
 
 -- bits received one after another
 unfoldable pub receiver_after : Mode → Receiver → List ℕ → Receiver

@@ -1,5 +1,5 @@
 -- The slots of a clean frame, one after another: given as they were sent, their alignment bits alternating.
-use Rattle.std.proofs.Common.{◌≡◌, ℕ, zero, suc, ◌+◌, ◌-◌, ◌*◌, ◌/◌, ◌%◌, ◌<◌, ◌≤◌, Bool, true, false, cond, not, ◌&&◌, eqb, ◌≢◌, List, [], ◌∷◌, ◌++◌, map, length, get_or, set, IfSome, Some, None, Option, sym, refl, ap, ◌∙◌, subst, ap₂, ⊎_elim, add-one, arith}
+use Rattle.std.proofs.Common.{◌≡◌, ℕ, suc, ◌+◌, ◌-◌, ◌/◌, ◌%◌, ◌<◌, ◌≤◌, Bool, true, false, not, eqb, ◌≢◌, List, [], ◌∷◌, ◌++◌, map, length, get_or, IfSome, Some, None, Option, sym, refl, ap, ◌∙◌, subst, ap₂, ⊎_elim, add-one, arith}
 use lib.Bits.{bit_xor, xor_zero_r}
 use Rattle.std.specs.List.{range_with_len}
 use Rattle.std.specs.Option.{option_to_list}
@@ -14,7 +14,6 @@ use Rattle.reception.specs.declared.receiver.Conclusion.{Conclusion}
 use Rattle.reception.specs.declared.receiver.Conclusion.TheVariants as shows
 use Rattle.reception.specs.declared.receiver.FaultKind.{FaultKind}
 use Rattle.reception.specs.declared.receiver.FaultKind.TheVariants.{Lost, Regained, Check, EnvelopeAlignment, Words, AlarmBegun, AlarmEnded}
-use Rattle.receiving_station.specs.declared.event.Delivery.{Delivery}
 use Rattle.receiving_station.specs.declared.line.ChannelRecord.{ChannelRecord}
 use Rattle.receiving_station.specs.declared.line.Line.{Line}
 use Rattle.receiving_station.specs.Hearing.{alignment_in, envelope_in, received_on, records_past, repeated, same, was_repeated, with_received}
@@ -25,7 +24,7 @@ use Rattle.receiving_station.specs.Sending.{Owners, line_past, one_if, or_filler
 use Rattle.receiving_station.proofs.Counted.{records_more}
 use Rattle.bearer.specs.InStep.{Alternates, Channels, IsAlarm}
 use Rattle.bearer.specs.Sent.{carried, gathered, sent_at, sent_by}
-use Rattle.bearer.proofs.Clean.{is_alarm, is_clean, same_justification}
+use Rattle.bearer.proofs.Clean.{is_alarm, is_clean}
 use Rattle.bearer.proofs.Laden.{laden_word}
 use Rattle.bearer.proofs.Records.{Quiet, QuietAt, QuietStep, delivered_at, deliveries, delivered, records_at, records_by, records_over}
 

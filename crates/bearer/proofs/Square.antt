@@ -1,5 +1,5 @@
 -- A bit received of a frame and of the bare frame: the two receivers stay beside each other within the frame.
-use Rattle.std.proofs.Common.{◌≡◌, ℕ, zero, suc, ◌+◌, ◌-◌, ◌*◌, ◌/◌, ◌%◌, ◌^◌, ◌<◌, ◌≤◌, Bool, true, false, cond, not, ◌&&◌, eqb, ltb, List, get_or, Some, None, Option, sym, refl, ap, ◌∙◌, subst, ap₂, ⊎_elim, mod-eq_of_lt, div-one, add-one, arith}
+use Rattle.std.proofs.Common.{◌≡◌, ℕ, ◌+◌, ◌-◌, ◌*◌, ◌/◌, ◌%◌, ◌^◌, ◌<◌, ◌≤◌, Bool, true, false, cond, not, ◌&&◌, eqb, ltb, List, get_or, Some, None, Option, sym, refl, ap, ◌∙◌, subst, ap₂, ⊎_elim, mod-eq_of_lt, div-one, add-one, arith}
 use native.Mathlib.Nat.{div-eq_of_lt}
 use lib.Bits.{bit_xor, xor_zero_l, xor_zero_r}
 use Rattle.std.proofs.lemmas.Bool.{cases_eq, cond_both, cond-true, eqb-false, eqb-true, lt-ltb}
@@ -18,7 +18,6 @@ use Rattle.frame.specs.Paddings.{padding}
 use Rattle.frame.specs.Places.{role}
 use Rattle.reception.specs.declared.progress.Heard.{Heard}
 use Rattle.reception.specs.declared.progress.Heard.TheVariants as heard
-use Rattle.reception.specs.declared.receiver.Conclusion.{Conclusion}
 use Rattle.reception.specs.declared.receiver.Conclusion.TheVariants.{Nothing, Word, Fault}
 use Rattle.reception.specs.declared.receiver.FaultKind.TheVariants.{Lost}
 use Rattle.reception.specs.declared.state.Progress.{Progress}
@@ -26,13 +25,13 @@ use Rattle.reception.specs.declared.state.Receiver.{Receiver}
 use Rattle.reception.specs.declared.state.Reception.{Reception}
 use Rattle.reception.specs.declared.state.Reception.TheVariants.{Aligned}
 use Rattle.reception.specs.Checks.{differs, is_wrong}
-use Rattle.reception.specs.Progresses.{filled, heard_in, moved_on, padded, seen, still_right, word_in, words_heard, with_word}
+use Rattle.reception.specs.Progresses.{filled, heard_in, moved_on, padded, seen, with_word}
 use Rattle.reception.specs.Registers.{shift}
-use Rattle.reception.specs.Steps.{aligned_at, aligned_by, aligned_fault, aligned_shows, alarm_fault, concluded, conclusion, counted, lost, shows_in, step_in, stepped, with_state, word_told}
+use Rattle.reception.specs.Steps.{aligned_at, aligned_by, aligned_fault, aligned_shows, alarm_fault, conclusion, counted, lost, shows_in, step_in, stepped, with_state, word_told}
 use Rattle.reception.specs.Words.{has_majority, justification_by, with_bit}
 use Rattle.bearer.proofs.Laden.{Valid, check_front, laden, laden_at, laden_progress, laden_state, laden_word, own_bit, own_padding, own_remainder, summed, sums_in, word_front}
-use Rattle.bearer.proofs.Places.{InPadding, InPayload, Padded, Place, bit_at, checks, place, slot_at}
-use Rattle.bearer.proofs.Sums.{bit_sum, choose, divide_sum, eqb_sum, front_bit, front_lt, one_less, register_linear}
+use Rattle.bearer.proofs.Places.{InPadding, InPayload, Place, bit_at, checks, place, slot_at}
+use Rattle.bearer.proofs.Sums.{bit_sum, divide_sum, eqb_sum, front_bit, front_lt, one_less, register_linear}
 
 -- the place moves on within the frame
 abbrev pub goes_on : Mode → Progress → Bool

@@ -1,5 +1,5 @@
 -- A station in step with a sender: what it makes of clean frames, however many.
-use Rattle.std.specs.Prelude.{◌≡◌, ℕ, ◌-◌, ◌<◌, ◌≤◌, Bool, true, false, not, List, length, IfSome, Some, None, Option}
+use Rattle.std.specs.Prelude.{◌≡◌, ℕ, ◌-◌, ◌<◌, ◌≤◌, Bool, true, not, List, length, IfSome, Some, None, Option}
 use Rattle.std.specs.List.{AllByRecursion as All}
 use Rattle.bank.specs.Meaning.{Meaning}
 use Rattle.frame.specs.declared.mode.Justification.{Justification}

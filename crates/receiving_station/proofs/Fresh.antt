@@ -1,8 +1,8 @@
 -- A fault ring at making.
-use Rattle.std.proofs.Common.{◌≡◌, ℕ, ◌+◌, ◌≤◌, cond, leb, List, length, sym, ap, ◌∙◌, ap₂, arith}
+use Rattle.std.proofs.Common.{◌≡◌, ◌+◌, ◌≤◌, List, length, ap, ◌∙◌, arith}
 use Rattle.std.proofs.lemmas.Bool.{le-leb, cond-true}
 use Rattle.ring.specs.declared.shape.Ring.{Ring}
-use Rattle.ring.specs.Queue.{Queue, empty}
+use Rattle.ring.specs.Queue.{empty}
 use Rattle.ring.specs.Held.{Fresh, queue, reaches}
 use Rattle.ring.proofs.Rings.{queue_fresh}
 use Rattle.receiving_station.specs.declared.event.Fault.{Fault}

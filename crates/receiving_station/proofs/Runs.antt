@@ -1,10 +1,9 @@
 -- A run of bits, some of them received: what is left of it gives what the whole run gives.
-use Rattle.std.proofs.Common.{◌≡◌, ℕ, ◌+◌, ◌<◌, ◌≤◌, Bool, true, false, cond, List, [], ◌∷◌, ◌++◌, length, get_or, drop, is_some, Some, None, fold, Option, sym, refl, ap, ◌∙◌, arith, length-append}
+use Rattle.std.proofs.Common.{◌≡◌, ℕ, ◌+◌, ◌<◌, ◌≤◌, Bool, true, false, cond, List, ◌++◌, length, get_or, drop, is_some, Some, None, Option, sym, refl, ap, ◌∙◌, arith}
 use Rattle.std.specs.Option.{option_to_list}
 use Rattle.std.proofs.lemmas.List.{drop_more, drop_all}
 use Rattle.bank.specs.Meaning.{Accounts, Meaning}
 use Rattle.receiving_station.specs.declared.event.Delivery.{Delivery}
-use Rattle.receiving_station.specs.declared.event.Event.{Event}
 use Rattle.receiving_station.specs.declared.event.Fault.{Fault}
 use Rattle.receiving_station.specs.declared.line.Line.{Line}
 use Rattle.receiving_station.specs.Faults.{Told}

@@ -2,7 +2,6 @@
 use Rattle.std.specs.Prelude.{ℕ, ◌-◌, ◌/◌, ◌%◌, Bool, true, false, cond, List, map, Some, None, Option, ◌==◌, slice_set}
 use Rattle.bank.specs.declared.Envelope.{Envelope}
 use Rattle.bank.specs.Meaning.{Accounts, Meaning, after_give}
-use Rattle.frame.specs.declared.mode.Justification.{Justification as HowLong}
 use Rattle.reception.specs.declared.receiver.Conclusion.{Conclusion}
 use Rattle.reception.specs.declared.receiver.Conclusion.TheVariants.{Nothing, Word, Fault, Justification}
 use Rattle.reception.specs.declared.receiver.FaultKind.{FaultKind}

@@ -2,7 +2,7 @@ use Rattle.std.proofs.Common.{◌≡◌, ◌+◌, get_or, is_some, sym, ap, ◌�
 use Rattle.channel_plan.specs.Tables.{owner_of}
 use Rattle.receiving_station.specs.Faults.{told_by}
 use Rattle.receiving_station.specs.Hearing.{event, given_if, noted_if, stepped_line}
-use Rattle.receiving_station.proofs.Runs.{end_accounts, end_count, end_faults, end_line, going_more, going_none, one_if}
+use Rattle.receiving_station.proofs.Runs.{end_accounts, end_count, end_faults, end_line, going_more, one_if}
 use Rattle.receiving_station.proofs.station.Station.hear_all.Goals as goal
 use Rattle.receiving_station.proofs.station.Station.hear_all.Goals.{then-hear, else-hear}
 
