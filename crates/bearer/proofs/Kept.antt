@@ -1,7 +1,7 @@
 -- A line in step with a sender stays so over a clean frame, and over any number of them.
 use Rattle.std.proofs.Common.{◌≡◌, ℕ, suc, ◌+◌, ◌-◌, ◌<◌, ◌≤◌, Bool, true, false, List, [], ◌∷◌, ◌++◌, map, get_or, replicate, IfSome, Some, None, Option, sym, refl, ap, ◌∙◌, subst, ap₂, ⊎_elim, arith}
 use lib.Bits.{bit_xor, xor_self, xor_zero_r}
-use Rattle.std.specs.List.{range_with_len, AllByRecursion as All}
+use Rattle.std.specs.List.{range_with_len, AllByRecursion}
 use Rattle.std.proofs.lemmas.List.FromFn.{get_or-map-range_with_len, length-map-range_with_len}
 use Rattle.std.proofs.ByRecursion.{All-append}
 use Rattle.std.proofs.lemmas.List.{get_or_past, get_or-replicate}
@@ -227,11 +227,11 @@ module _ (m : Meaning) (owner : Owners) (known : Channels owner) (s : Sender) (r
   pub gives_all : given owner r bits ≡ sent_slots m owner f
   gives_all = given_over owner bits r ∙ ap (deliveries owner) shows_is ∙ all_slots.given
 
-  pub no_fault : All (λ x. IsAlarm x.kind) (faults_in owner r bits)
+  pub no_fault : AllByRecursion (λ x. IsAlarm x.kind) (faults_in owner r bits)
   no_fault = faults_over owner bits r (subst (Quiet owner r.records) (sym shows_is) all_slots.quiet)
 
 -- frame after frame
-goes_on_lem : (m : Meaning) (owner : Owners) → Channels owner → (js : List Justification) (s : Sender) (r : Line) → All (Allows s.line.mode) js → InStep s.line r → Receives m owner s r js
+goes_on_lem : (m : Meaning) (owner : Owners) → Channels owner → (js : List Justification) (s : Sender) (r : Line) → AllByRecursion (Allows s.line.mode) js → InStep s.line r → Receives m owner s r js
 unfolding bits_sent envelopes_sent after_frames line_after events parts
 goes_on_lem m owner known [] s r allowed so = record { in_step = so; faults = tt; given = refl }
 goes_on_lem m owner known (j ∷ js) s r allowed so =
@@ -242,7 +242,7 @@ goes_on_lem m owner known (j ∷ js) s r allowed so =
     let rest = goes_on_lem m owner known js next (line_after owner r bits) allowed.1 (keeps_step m owner known s r j allowed.0 so) in
     record {
       in_step = subst (InStep (after_frames m owner next js).line) (sym two.line) rest.in_step;
-      faults = subst (All (λ f. IsAlarm f.kind)) (sym two.recorded) (All-append (λ f. IsAlarm f.kind) (faults_in owner r bits) (faults_in owner (line_after owner r bits) more) (no_fault m owner known s r j allowed.0 so) rest.faults);
+      faults = subst (AllByRecursion (λ f. IsAlarm f.kind)) (sym two.recorded) (All-append (λ f. IsAlarm f.kind) (faults_in owner r bits) (faults_in owner (line_after owner r bits) more) (no_fault m owner known s r j allowed.0 so) rest.faults);
       given = two.delivered ∙ ap₂ (λ xs ys. xs ++ ys) (gives_all m owner known s r j allowed.0 so) rest.given;
     }
 

@@ -1,6 +1,6 @@
 -- A line over a run, by what its receiver shows.
 use Rattle.std.proofs.Common.{◌≡◌, ℕ, Bool, true, false, List, [], ◌∷◌, ◌++◌, Some, None, Option, sym, refl, ap, ◌∙◌, subst, ap₂}
-use Rattle.std.specs.List.{AllByRecursion as All}
+use Rattle.std.specs.List.{AllByRecursion}
 use Rattle.std.specs.Option.{option_to_list}
 use Rattle.std.proofs.lemmas.Bool.{false≢true}
 use Rattle.reception.specs.declared.receiver.Conclusion.{Conclusion}
@@ -114,7 +114,7 @@ module _ (owner : Owners) where
   Quiet rs (c ∷ cs) = QuietStep rs c × Quiet (records_by rs c) cs
 
   abbrev Alarms : List Fault → Type 0
-  Alarms fs = All (λ f. IsAlarm f.kind) fs
+  Alarms fs = AllByRecursion (λ f. IsAlarm f.kind) fs
 
   none_if : (t : Bool) (f : Fault) → t ≡ false → fault_if t f ≡ None
   none_if true f e = absurd (false≢true (sym e))

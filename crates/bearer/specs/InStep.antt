@@ -1,6 +1,6 @@
 -- A station in step with a sender: what it makes of clean frames, however many.
 use Rattle.std.specs.Prelude.{◌≡◌, ℕ, ◌-◌, ◌<◌, ◌≤◌, Bool, true, not, List, length, IfSome, Some, None, Option}
-use Rattle.std.specs.List.{AllByRecursion as All}
+use Rattle.std.specs.List.{AllByRecursion}
 use Rattle.bank.specs.Meaning.{Meaning}
 use Rattle.frame.specs.declared.mode.Justification.{Justification}
 use Rattle.frame.specs.declared.mode.Mode.{Mode}
@@ -56,10 +56,10 @@ IsAlarm AlarmEnded = Unit {0}
 -- of kinds 1 to 5, and gives every envelope as it was sent
 pub record Receives (m : Meaning) (owner : Owners) (s : Sender) (r : Line) (js : List Justification) : Type 0 where
   pub in_step : InStep (after_frames m owner s js).line (line_after owner r (bits_sent m owner s js))
-  pub faults : All (λ f. IsAlarm f.kind) (faults_in owner r (bits_sent m owner s js))
+  pub faults : AllByRecursion (λ f. IsAlarm f.kind) (faults_in owner r (bits_sent m owner s js))
   pub given : given owner r (bits_sent m owner s js) ≡ envelopes_sent m owner s js
 
 -- two placed stations just made are in step, each way; and a line in step stays so over any number of frames
 pub record StaysInStep : Type 0 where
   pub begins : (mode : Mode) (n k : ℕ) → InStep (fresh_line mode n placed_state) (fresh_line mode k placed_state)
-  pub goes_on : (m : Meaning) (owner : Owners) → Channels owner → (s : Sender) (r : Line) (js : List Justification) → All (Allows s.line.mode) js → InStep s.line r → Receives m owner s r js
+  pub goes_on : (m : Meaning) (owner : Owners) → Channels owner → (s : Sender) (r : Line) (js : List Justification) → AllByRecursion (Allows s.line.mode) js → InStep s.line r → Receives m owner s r js

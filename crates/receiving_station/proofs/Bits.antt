@@ -1,12 +1,12 @@
 -- A run of bits only.
 use Rattle.std.proofs.Common.{◌≡◌, ℕ, ◌<◌, true, false, ltb, List, length, get_or, Decides, refl, ⊎_elim, arith}
-use Rattle.std.specs.List.{AllByRecursion as All}
+use Rattle.std.specs.List.{AllByRecursion}
 use Rattle.std.proofs.ByRecursion.{All-get_or, All-from_get_or, Decides-by_and}
 use Rattle.std.proofs.lemmas.Bool.{cases_Bool}
 use Rattle.std.proofs.lemmas.Bool.Decides.{Decides-ltb}
 use Rattle.receiving_station.specs.Receiving.{only_bits}
 
-decides_bits : (xs : List ℕ) → Decides (only_bits xs) (All (λ b. b < 2) xs)
+decides_bits : (xs : List ℕ) → Decides (only_bits xs) (AllByRecursion (λ b. b < 2) xs)
 decides_bits xs = Decides-by_and (λ b. ltb b 2) (λ b. b < 2) only_bits (λ b. Decides-ltb b 2) refl (λ _ _. refl) xs
 
 pub bits_at : (xs : List ℕ) (i : ℕ) → only_bits xs ≡ true → i < length xs → get_or xs i 0 < 2
