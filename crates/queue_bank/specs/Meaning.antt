@@ -29,14 +29,14 @@ refused : (b : Bool) (x a : List ℕ) → (cond {A = Bool × List ℕ} b (true, 
 refused true x a e = absurd (true≢false e)
 refused false x a e = refl
 
-is_envelope : Option Envelope → Bool
-is_envelope None = false
-is_envelope (Some e) = true
+is_some : Option Envelope → Bool
+is_some None = false
+is_some (Some e) = true
 
 nothing : (o : Option Envelope) (x a : List ℕ) → (answered o x a).0 ≡ None → (answered o x a).1 ≡ a
-unfolding is_envelope
+unfolding is_some
 nothing None x a e = refl
-nothing (Some y) x a e = absurd (true≢false (λ i. is_envelope (e i)))
+nothing (Some y) x a e = absurd (true≢false (λ i. is_some (e i)))
 
 pub queue_laws : Laws queue_meaning
 queue_laws = lawful queue_each (λ a e. refused (has_room (as_queues a).outgoing) _ a) (λ a. nothing (oldest (as_queues a).incoming) _ a)
