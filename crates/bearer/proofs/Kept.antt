@@ -22,14 +22,14 @@ use Rattle.reception.specs.declared.state.Receiver.{Receiver}
 use Rattle.reception.specs.declared.state.Reception.TheVariants.{Aligned}
 use Rattle.reception.specs.Checks.{checking}
 use Rattle.reception.specs.Progresses.{from}
-use Rattle.receiving_station.specs.declared.line.ChannelRecord.{ChannelRecord}
-use Rattle.receiving_station.specs.declared.line.Line.{Line}
-use Rattle.receiving_station.specs.Frames.{next_check, sent_frame}
-use Rattle.receiving_station.specs.Lines.{entry, fresh_record, next_bit}
-use Rattle.receiving_station.specs.Receiving.{events, faults_in, given, line_after, parts}
-use Rattle.receiving_station.specs.Sending.{Owners, content_of, records_for, slot_word, taken_for, word_at, words}
-use Rattle.receiving_station.proofs.Counted.{records_none}
-use Rattle.receiving_station.proofs.Pieces.{in_two}
+use Rattle.station.specs.declared.line.ChannelRecord.{ChannelRecord}
+use Rattle.station.specs.declared.line.Line.{Line}
+use Rattle.station.specs.Frames.{next_check, sent_frame}
+use Rattle.station.specs.Lines.{entry, fresh_record, next_bit}
+use Rattle.station.specs.Receiving.{events, faults_in, given, line_after, parts}
+use Rattle.station.specs.Sending.{Owners, content_of, records_for, slot_word, taken_for, word_at, words}
+use Rattle.station.proofs.Counted.{records_none}
+use Rattle.station.proofs.Pieces.{in_two}
 use Rattle.bearer.specs.InStep.{Alternates, Between, Channels, InStep, IsAlarm, Receives, StaysInStep}
 use Rattle.bearer.specs.Sent.{Allows, Sender, after_frame, after_frames, bits_sent, envelopes_sent, sent_slots}
 use Rattle.bearer.proofs.Clean.{bare_content, clean_rests, clean_shown, clean_stays, expected_next, is_clean, resting}

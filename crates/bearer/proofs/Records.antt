@@ -8,14 +8,14 @@ use Rattle.reception.specs.declared.receiver.Conclusion.TheVariants as shows
 use Rattle.reception.specs.declared.receiver.FaultKind.TheVariants.{EnvelopeAlignment, Words}
 use Rattle.reception.specs.declared.state.Receiver.{Receiver}
 use Rattle.reception.specs.Steps.{conclusion, stepped}
-use Rattle.receiving_station.specs.declared.event.Delivery.{Delivery}
-use Rattle.receiving_station.specs.declared.event.Fault.{Fault}
-use Rattle.receiving_station.specs.declared.line.ChannelRecord.{ChannelRecord}
-use Rattle.receiving_station.specs.declared.line.Line.{Line}
-use Rattle.receiving_station.specs.Hearing.{alignment_in, concluded_event, concluded_line, envelope_in, event, fault_at, fault_if, heard_line, received_on, records_past, slot_event, slot_line, stepped_line, was_repeated}
-use Rattle.receiving_station.specs.Lines.{with_records}
-use Rattle.receiving_station.specs.Receiving.{events, faults_in, given, line_after, parts}
-use Rattle.receiving_station.specs.Sending.{Owners}
+use Rattle.station.specs.declared.event.Delivery.{Delivery}
+use Rattle.station.specs.declared.event.Fault.{Fault}
+use Rattle.station.specs.declared.line.ChannelRecord.{ChannelRecord}
+use Rattle.station.specs.declared.line.Line.{Line}
+use Rattle.station.specs.Hearing.{alignment_in, concluded_event, concluded_line, envelope_in, event, fault_at, fault_if, heard_line, received_on, records_past, slot_event, slot_line, stepped_line, was_repeated}
+use Rattle.station.specs.Lines.{with_records}
+use Rattle.station.specs.Receiving.{events, faults_in, given, line_after, parts}
+use Rattle.station.specs.Sending.{Owners}
 use Rattle.bearer.specs.InStep.{IsAlarm}
 use Rattle.bearer.proofs.Runs.{receiver_after, shown}
 

@@ -14,14 +14,14 @@ use Rattle.reception.specs.declared.receiver.Conclusion.{Conclusion}
 use Rattle.reception.specs.declared.receiver.Conclusion.TheVariants as shows
 use Rattle.reception.specs.declared.receiver.FaultKind.{FaultKind}
 use Rattle.reception.specs.declared.receiver.FaultKind.TheVariants.{Lost, Regained, Check, EnvelopeAlignment, Words, AlarmBegun, AlarmEnded}
-use Rattle.receiving_station.specs.declared.line.ChannelRecord.{ChannelRecord}
-use Rattle.receiving_station.specs.declared.line.Line.{Line}
-use Rattle.receiving_station.specs.Hearing.{alignment_in, envelope_in, received_on, records_past, repeated, same, was_repeated, with_received}
+use Rattle.station.specs.declared.line.ChannelRecord.{ChannelRecord}
+use Rattle.station.specs.declared.line.Line.{Line}
+use Rattle.station.specs.Hearing.{alignment_in, envelope_in, received_on, records_past, repeated, same, was_repeated, with_received}
 use Rattle.frame.specs.declared.mode.Mode.TheVariants.{Synchronous}
 use Rattle.reception.specs.Steps.{placed_state}
-use Rattle.receiving_station.specs.Lines.{alternated_record, entry, fresh_line, next_bit, with_records}
-use Rattle.receiving_station.specs.Sending.{Owners, line_past, one_if, or_filler, records_for, records_from, slot_word, taken_for, word, word_at, words}
-use Rattle.receiving_station.proofs.Counted.{records_more}
+use Rattle.station.specs.Lines.{alternated_record, entry, fresh_line, next_bit, with_records}
+use Rattle.station.specs.Sending.{Owners, line_past, one_if, or_filler, records_for, records_from, slot_word, taken_for, word, word_at, words}
+use Rattle.station.proofs.Counted.{records_more}
 use Rattle.bearer.specs.InStep.{Alternates, Channels, IsAlarm}
 use Rattle.bearer.specs.Sent.{carried, gathered, sent_at, sent_by}
 use Rattle.bearer.proofs.Clean.{is_alarm, is_clean}

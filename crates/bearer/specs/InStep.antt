@@ -11,10 +11,10 @@ use Rattle.reception.specs.declared.state.Reception.TheVariants.{Aligned}
 use Rattle.reception.specs.Checks.{checking}
 use Rattle.reception.specs.Progresses.{from}
 use Rattle.reception.specs.Steps.{placed_state}
-use Rattle.receiving_station.specs.declared.line.Line.{Line}
-use Rattle.receiving_station.specs.Lines.{entry, fresh_line, next_bit}
-use Rattle.receiving_station.specs.Receiving.{faults_in, given, line_after}
-use Rattle.receiving_station.specs.Sending.{Owners}
+use Rattle.station.specs.declared.line.Line.{Line}
+use Rattle.station.specs.Lines.{entry, fresh_line, next_bit}
+use Rattle.station.specs.Receiving.{faults_in, given, line_after}
+use Rattle.station.specs.Sending.{Owners}
 use Rattle.bearer.specs.Sent.{Allows, Sender, after_frames, bits_sent, envelopes_sent}
 
 -- the owner of each slot is a channel

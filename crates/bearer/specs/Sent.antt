@@ -8,10 +8,10 @@ use Rattle.frame.specs.declared.mode.Justification.{Justification}
 use Rattle.frame.specs.declared.mode.Justification.TheVariants.{Deleted, Unchanged, Added}
 use Rattle.frame.specs.declared.mode.Mode.{Mode}
 use Rattle.frame.specs.declared.mode.Mode.TheVariants.{Synchronous, Justified}
-use Rattle.receiving_station.specs.declared.event.Delivery.{Delivery}
-use Rattle.receiving_station.specs.declared.line.Line.{Line}
-use Rattle.receiving_station.specs.Frames.{sent_accounts, sent_frame, sent_line}
-use Rattle.receiving_station.specs.Sending.{Owners, or_filler, taken_for}
+use Rattle.station.specs.declared.event.Delivery.{Delivery}
+use Rattle.station.specs.declared.line.Line.{Line}
+use Rattle.station.specs.Frames.{sent_accounts, sent_frame, sent_line}
+use Rattle.station.specs.Sending.{Owners, or_filler, taken_for}
 
 -- a frame carries eight bits of an octet; no bank of bytes answers more
 abbrev pub carried : Envelope → Envelope

@@ -1,15 +1,11 @@
 -- One slot more: accounts and records as defined by place move as one take and one alternation move them.
-use Rattle.std.proofs.Common.{◌≡◌, ℕ, zero, suc, ◌+◌, ◌-◌, ◌<◌, ◌≤◌, Bool, true, false, cond, not, eqb, List, [], ◌∷◌, get_or, set, IfSome, Some, None, Option, sym, refl, ap, ◌∙◌, subst, ap₂, ⊎_elim, add-one, arith}
+use Rattle.std.proofs.Common.{◌≡◌, ℕ, zero, suc, ◌+◌, ◌-◌, ◌<◌, ◌≤◌, Bool, true, false, cond, not, eqb, List, [], ◌∷◌, set, IfSome, Some, None, Option, sym, refl, ap, ◌∙◌, ap₂, ⊎_elim, add-one, arith}
 use Rattle.std.proofs.lemmas.Bool.{cases_eq, cond-false, cond-true, eq-eqb, ne_eqb}
 use Rattle.bank.specs.Meaning.{Accounts, Meaning}
-use Rattle.channel_plan.specs.Tables.{Table, owner_of}
 use Rattle.station.specs.declared.line.ChannelRecord.{ChannelRecord}
 use Rattle.station.specs.declared.line.Line.{Line}
-use Rattle.station.specs.Lines.{with_records}
+use Rattle.station.specs.Lines.{alternated_record, entry, with_records}
 use Rattle.station.specs.Sending.{Owners, accounts_past, after_takes, alternated, before, is_owner, line_past, records_for, records_from, slot_word, taken_for, word_at}
-
-abbrev blank : ChannelRecord
-blank = record { sending = false }
 
 -- the count of a channel's slots
 before_more : (owner : Owners) (c k : ℕ) → before owner c (k + 1) ≡ cond (is_owner (owner k) c) 1 0 + before owner c k
@@ -63,21 +59,21 @@ module _ (owner : Owners) where
   unfolding records_from
   records_same k c [] none = refl
   records_same k c (r ∷ rs) none =
-      ap₂ (λ n xs. record { sending = alternated r.sending n } ∷ xs) (sym (none_more owner c k (none c (omega arith))))
+      ap₂ (λ n xs. record { sending = alternated r.sending n; received = r.received } ∷ xs) (sym (none_more owner c k (none c (omega arith))))
       (records_same k (suc c) rs (λ d h. none d (omega arith)))
 
   -- the owner of slot k alternates
-  records_one : (k d : ℕ) → owner k ≡ Some d → (n c : ℕ) (rs : List ChannelRecord) → d ≡ c + n → set (records_from owner k c rs) n (record { sending = not (get_or (records_from owner k c rs) n blank).sending }) ≡ records_from owner (k + 1) c rs
+  records_one : (k d : ℕ) → owner k ≡ Some d → (n c : ℕ) (rs : List ChannelRecord) → d ≡ c + n → set (records_from owner k c rs) n (alternated_record (entry (records_from owner k c rs) n)) ≡ records_from owner (k + 1) c rs
   unfolding records_from
   records_one k d e n c [] is = refl
   records_one k d e zero c (r ∷ rs) is =
       let mine : is_owner (owner k) c ≡ true = ap (λ p. is_owner p c) e ∙ eq-eqb d c (omega arith) in
-      ap₂ (λ b xs. record { sending = b } ∷ xs)
+      ap₂ (λ b xs. record { sending = b; received = r.received } ∷ xs)
       (alternated_one r.sending (before owner c k) ∙ ap (alternated r.sending) (sym (one_more owner c k mine)))
       (records_same k (suc c) rs (λ x h. ap (λ p. is_owner p x) e ∙ ne_eqb d x (λ q. omega arith)))
   records_one k d e (suc n) c (r ∷ rs) is =
       let other : is_owner (owner k) c ≡ false = ap (λ p. is_owner p c) e ∙ ne_eqb d c (λ q. omega arith) in
-      ap₂ (λ m xs. record { sending = alternated r.sending m } ∷ xs) (sym (none_more owner c k other)) (records_one k d e n (suc c) rs (omega arith))
+      ap₂ (λ m xs. record { sending = alternated r.sending m; received = r.received } ∷ xs) (sym (none_more owner c k other)) (records_one k d e n (suc c) rs (omega arith))
 
   records_at : (rs : List ChannelRecord) (k : ℕ) (o : Option ℕ) → owner k ≡ o → IfSome o (λ c. (0 < c) × (c ≤ 80)) → (l : Line) → line_past o (with_records (records_for owner rs k) l) ≡ with_records (records_for owner rs (k + 1)) l
   records_at rs k None e known l = ap (λ xs. with_records xs l) (records_same k 1 rs (λ d h. ap (λ p. is_owner p d) e))
@@ -87,15 +83,13 @@ module _ (owner : Owners) where
   records_more rs k known l = records_at rs k (owner k) refl known l
 
 -- a turn of the loop over the slots, from what the slots before left
-module _ (m : Meaning) (t t₀ : Table) (same : t ≡ t₀) (f held : Accounts) (l l₀ : Line) (k : ℕ) (accounts : held ≡ taken_for m (owner_of t₀) f k) (line : l ≡ with_records (records_for (owner_of t₀) l₀.records k) l₀) where
-  pub turn_word : (r : ℕ) → r ≡ slot_word m held l.records (owner_of t k) → r ≡ word_at m (owner_of t₀) f l₀.records k
+module _ (m : Meaning) (owner : Owners) (f held : Accounts) (l l₀ : Line) (k : ℕ) (accounts : held ≡ taken_for m owner f k) (line : l ≡ with_records (records_for owner l₀.records k) l₀) where
+  pub turn_word : (r : ℕ) → r ≡ slot_word m held l.records (owner k) → r ≡ word_at m owner f l₀.records k
   unfolding word_at
-  turn_word r e = e ∙ (λ i. slot_word m (accounts i) (line i).records (owner_of (same i) k))
+  turn_word r e = e ∙ (λ i. slot_word m (accounts i) (line i).records (owner k))
 
-  pub turn_accounts : (after : Accounts) → after ≡ accounts_past m (owner_of t k) held → after ≡ taken_for m (owner_of t₀) f (k + 1)
-  turn_accounts after e = e ∙ (λ i. accounts_past m (owner_of (same i) k) (accounts i)) ∙ taken_more m (owner_of t₀) f k
+  pub turn_accounts : (after : Accounts) → after ≡ accounts_past m (owner k) held → after ≡ taken_for m owner f (k + 1)
+  turn_accounts after e = e ∙ ap (accounts_past m (owner k)) accounts ∙ taken_more m owner f k
 
-  pub turn_line : (after : Line) → after ≡ line_past (owner_of t k) l → IfSome (owner_of t k) (λ c. (0 < c) × (c ≤ 80)) → after ≡ with_records (records_for (owner_of t₀) l₀.records (k + 1)) l₀
-  turn_line after e known =
-      e ∙ (λ i. line_past (owner_of (same i) k) (line i))
-      ∙ records_more (owner_of t₀) l₀.records k (subst (λ u. IfSome (owner_of u k) (λ c. (0 < c) × (c ≤ 80))) same known) l₀
+  pub turn_line : (after : Line) → after ≡ line_past (owner k) l → IfSome (owner k) (λ c. (0 < c) × (c ≤ 80)) → after ≡ with_records (records_for owner l₀.records (k + 1)) l₀
+  turn_line after e known = e ∙ ap (line_past (owner k)) line ∙ records_more owner l₀.records k known l₀

@@ -1,5 +1,5 @@
 -- A frame in the front of a buffer.
-use Rattle.std.proofs.Common.{◌≡◌, ℕ, ◌-◌, ◌≤◌, ltb, List, ◌++◌, length, take, drop, ap, ◌∙◌, arith}
+use Rattle.std.proofs.Common.{◌≡◌, ℕ, ◌≤◌, ltb, List, ◌++◌, length, take, drop, sym, ap, ◌∙◌}
 use Rattle.std.proofs.lemmas.List.FromFn.{length-map-range_with_len}
 use Rattle.std.proofs.lemmas.List.{take_at}
 use Rattle.std.proofs.lemmas.Bool.{cond-false, le-ltb}
@@ -25,8 +25,6 @@ module _ (m : Meaning) (owner : Owners) (f : Accounts) (l : Line) (j : Justifica
       e ∙ ap (λ x. filled l.mode x old) is
       ∙ cond-false (ltb (length old) 2561) _ (frame l.mode (content_of m owner f l j) ++ drop (frame_length j) old) (le-ltb (length old) 2561 long)
 
-  pub front : (n : ℕ) → n ≡ frame_length j → new ≡ sent_frame m owner f l j ++ drop (frame_length j) old → take (n - 0) new ≡ sent_frame m owner f l j
+  pub front : (n : ℕ) → n ≡ frame_length j → new ≡ sent_frame m owner f l j ++ drop (frame_length j) old → take n new ≡ sent_frame m owner f l j
   unfolding sent_frame
-  front n size e =
-      let same : frame_length j ≡ n - 0 = omega arith in
-      ap (take (n - 0)) e ∙ take_at (frame l.mode (content_of m owner f l j)) (drop (frame_length j) old) (n - 0) (length_frame l.mode (content_of m owner f l j) ∙ same)
+  front n size e = ap (take n) e ∙ take_at (frame l.mode (content_of m owner f l j)) (drop (frame_length j) old) n (length_frame l.mode (content_of m owner f l j) ∙ sym size)

@@ -1,4 +1,9 @@
+pub mod Events
+pub mod Faults
 pub mod Frames
+pub mod Hearing
 pub mod Lines
+pub mod Pieces
+pub mod Receiving
 pub mod Refusals
 pub mod Sending

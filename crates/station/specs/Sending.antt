@@ -1,5 +1,5 @@
 -- What a station sends: the words of the slots, from the takes of its bank and its channel records.
-use Rattle.std.specs.Prelude.{ℕ, zero, suc, ◌+◌, ◌*◌, Bool, false, cond, not, List, [], ◌∷◌, map, Some, None, Option, ◌==◌}
+use Rattle.std.specs.Prelude.{ℕ, zero, suc, ◌+◌, ◌*◌, ◌%◌, Bool, false, cond, not, List, [], ◌∷◌, map, Some, None, Option, ◌==◌}
 use Rattle.std.specs.List.{range_with_len}
 use Rattle.bank.specs.declared.Envelope.{Envelope}
 use Rattle.bank.specs.Meaning.{Accounts, Meaning, after_take}
@@ -8,7 +8,8 @@ use Rattle.frame.specs.declared.content.Content.{Content}
 use Rattle.frame.specs.declared.mode.Justification.{Justification}
 use Rattle.station.specs.declared.line.ChannelRecord.{ChannelRecord}
 use Rattle.station.specs.declared.line.Line.{Line}
-use Rattle.station.specs.Lines.{alternated_line, is_blocked, next_bit}
+use Rattle.reception.specs.Steps.{is_blocked}
+use Rattle.station.specs.Lines.{alternated_line, next_bit}
 
 -- who owns each slot
 abbrev pub Owners : Type 0
@@ -43,9 +44,9 @@ or_filler (Some e) = e
 abbrev pub one_if : Bool → ℕ
 one_if b = cond b 1 0
 
--- the ten bits of a slot: status, envelope alignment, octet
+-- the ten bits of a slot: status, envelope alignment, and the eight of the octet
 abbrev pub word : Envelope → Bool → ℕ
-word e align = 512 * one_if e.status + 256 * one_if align + e.octet
+word e align = 512 * one_if e.status + 256 * one_if align + e.octet % 256
 
 -- the accounts once the slots below k were taken for
 unfoldable pub taken_for : Meaning → Owners → Accounts → ℕ → Accounts
@@ -54,7 +55,7 @@ taken_for m owner f k c = after_takes m c (f c) (before owner c k)
 -- the channel records then: each has alternated once for each slot; the first is that of channel c
 unfoldable pub records_from : Owners → ℕ → ℕ → List ChannelRecord → List ChannelRecord
 records_from owner k c [] = []
-records_from owner k c (r ∷ rs) = record { sending = alternated r.sending (before owner c k) } ∷ records_from owner k (suc c) rs
+records_from owner k c (r ∷ rs) = record { sending = alternated r.sending (before owner c k); received = r.received } ∷ records_from owner k (suc c) rs
 
 abbrev pub records_for : Owners → List ChannelRecord → ℕ → List ChannelRecord
 records_for owner rs k = records_from owner k 1 rs
@@ -74,7 +75,7 @@ words m owner f rs = map (word_at m owner f rs) (range_with_len 0 240)
 
 -- what a frame is made of
 abbrev pub content_of : Meaning → Owners → Accounts → Line → Justification → Content
-content_of m owner f l j = record { blocked = is_blocked l.reception; check = l.check; justification = j; words = words m owner f l.records }
+content_of m owner f l j = record { blocked = is_blocked l.receiver.state; check = l.check; justification = j; words = words m owner f l.records }
 
 -- what one slot leaves of the accounts and of the line
 abbrev pub accounts_past : Meaning → Option ℕ → Accounts → Accounts

@@ -4,9 +4,11 @@ ghost use Rattle.channel_plan.specs.Tables.{owner_of};
 ghost use Rattle.frame.specs.Modes.{frame_length};
 ghost use Rattle.station.specs.Frames.{allowed, judged, next_check, sent_accounts, sent_answer, sent_buffer, sent_line};
 
+use crate::line::Line;
 use crate::refusal::SendRefusal;
 use crate::station::Station;
 use bank::Bank;
+use channel_plan::Plan;
 use frame::check::remainder_of;
 use frame::content::LONGEST;
 use frame::{Content, Justification, Mode};
@@ -16,13 +18,7 @@ fn allowed(mode: Mode, number: i8) -> Option<Justification>
     ensures { result ≡ allowed mode number }
 {
     match mode {
-        Mode::Synchronous => {
-            if number == 0 {
-                Some(Justification::Unchanged)
-            } else {
-                None
-            }
-        }
+        Mode::Synchronous => (number == 0).then_some(Justification::Unchanged),
         Mode::Justified => Justification::from_number(number),
     }
 }
@@ -31,16 +27,11 @@ fn allowed(mode: Mode, number: i8) -> Option<Justification>
 fn judge(mode: Mode, number: i8, buffer: &[u8]) -> Result<Justification, SendRefusal>
     ensures { result ≡ judged mode number buffer.now }
 {
-    match allowed(mode, number) {
-        None => Err(SendRefusal::Justification),
-        Some(justification) => {
-            if buffer.len() < LONGEST {
-                Err(SendRefusal::Buffer)
-            } else {
-                Ok(justification)
-            }
-        }
+    let justification = allowed(mode, number).ok_or(SendRefusal::Justification)?;
+    if buffer.len() < LONGEST {
+        return Err(SendRefusal::Buffer);
     }
+    Ok(justification)
 }
 
 // The check bits of the frame after this one.
@@ -61,26 +52,35 @@ impl<B: Bank> Station<B> {
         ensures line { self.new.line ≡ sent_line B.meaning (owner_of self.old.plan.table) (B.account self.old.bank) self.old.line (judged self.old.line.mode justification buffer.old) }
         ensures accounts { B.account self.new.bank ≡ sent_accounts B.meaning (owner_of self.old.plan.table) (B.account self.old.bank) self.old.line (judged self.old.line.mode justification buffer.old) }
         ensures plan { self.new.plan ≡ self.old.plan }
+        ensures faults { self.new.faults ≡ self.old.faults }
     {
-        match judge(self.line.mode, justification, buffer) {
-            Ok(justification) => Ok(self.send_frame(justification, buffer)),
-            Err(refusal) => Err(refusal),
-        }
+        let justification = judge(self.line.mode, justification, buffer)?;
+        Ok(
+            self.line
+                .send(&self.plan, &mut self.bank, justification, buffer),
+        )
     }
+}
 
+impl Line {
     // Sends a frame into a buffer that is long enough.
-    fn send_frame(&mut self, justification: Justification, buffer: &mut [u8]) -> usize
+    fn send<B: Bank>(
+        &mut self,
+        plan: &Plan,
+        bank: &mut B,
+        justification: Justification,
+        buffer: &mut [u8],
+    ) -> usize
         requires { 2561 ≤ length buffer.old }
         ensures answer { result ≡ frame_length justification }
-        ensures buffer { buffer.new ≡ sent_buffer B.meaning (owner_of self.old.plan.table) (B.account self.old.bank) self.old.line (Ok justification) buffer.old }
-        ensures line { self.new.line ≡ sent_line B.meaning (owner_of self.old.plan.table) (B.account self.old.bank) self.old.line (Ok justification) }
-        ensures accounts { B.account self.new.bank ≡ sent_accounts B.meaning (owner_of self.old.plan.table) (B.account self.old.bank) self.old.line (Ok justification) }
-        ensures plan { self.new.plan ≡ self.old.plan }
+        ensures buffer { buffer.new ≡ sent_buffer B.meaning (owner_of plan.now.table) (B.account bank.old) self.old (Ok justification) buffer.old }
+        ensures line { self.new ≡ sent_line B.meaning (owner_of plan.now.table) (B.account bank.old) self.old (Ok justification) }
+        ensures accounts { B.account bank.new ≡ sent_accounts B.meaning (owner_of plan.now.table) (B.account bank.old) self.old (Ok justification) }
     {
-        let mode = self.line.mode;
-        let blocked = self.line.blocked();
-        let check = self.line.check;
-        let words = self.send_words();
+        let mode = self.mode;
+        let blocked = self.receiver.state.is_blocked();
+        let check = self.check;
+        let words = self.send_words(plan, bank);
         let content = Content {
             blocked,
             check,
@@ -89,7 +89,7 @@ impl<B: Bank> Station<B> {
         };
         let _ = content.fill(mode, buffer);
         let length = justification.frame_length();
-        self.line.check = next_check(mode, &buffer[0..length]);
+        self.check = next_check(mode, &buffer[..length]);
         length
     }
 }

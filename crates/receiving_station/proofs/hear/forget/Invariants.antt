@@ -1,6 +1,0 @@
-use Rattle.std.proofs.Common.{◌≡◌, ◌++◌, map, take, drop}
-use Rattle.receiving_station.specs.Hearing.{without_received}
-use Rattle.receiving_station.proofs.hear.forget.Given as goal
-
-abbrev pub invariant-loop-record : goal.invariant-loop-record
-invariant-loop-record l = l.records ≡ map without_received (take l.record-index l.initial.records) ++ drop l.record-index l.initial.records

@@ -1,0 +1,65 @@
+// What a bit received concludes.
+ghost use Rattle.std.specs.Prelude.{◌≡◌, ℕ};
+ghost use Rattle.station.specs.Events.{fault_code, fault_event, no_event};
+
+use bank::Envelope;
+use frame::Justification;
+use reception::FaultKind;
+use ring::Coded;
+
+/// An envelope for a channel.
+#[derive(Clone, Copy, Debug, PartialEq, Eq)]
+pub struct Delivery {
+    pub channel: u16,
+    pub envelope: Envelope,
+}
+
+/// A fault: its kind, its channel where it is an envelope alignment and otherwise 0, and how many bits were received with
+/// the one at which it showed.
+// The rules give a record a channel of 0 in place of none, so it is no Option.
+#[derive(Clone, Copy)]
+pub struct Fault {
+    pub kind: FaultKind,
+    pub channel: u16,
+    pub bits: u64,
+}
+
+impl Coded for Fault {
+    ghost coded = { fault_code };
+
+    fn code(&self) -> u16 {
+        self.kind.number() as u16
+    }
+}
+
+/// What a bit received concludes: an envelope that is given to a channel, a fault, the justification that a frame is
+/// taken to have. Alignment is lost where the fault is of that kind.
+#[derive(Clone, Copy)]
+pub struct Event {
+    pub given: Option<Delivery>,
+    pub fault: Option<Fault>,
+    pub taken: Option<Justification>,
+}
+
+impl Event {
+    pub(crate) fn nothing() -> Event
+        ensures { result ≡ no_event }
+    {
+        Event {
+            given: None,
+            fault: None,
+            taken: None,
+        }
+    }
+}
+
+impl From<Fault> for Event {
+    ghost from_gives = { λ f r. r ≡ fault_event f };
+
+    fn from(fault: Fault) -> Event {
+        Event {
+            fault: Some(fault),
+            ..Event::nothing()
+        }
+    }
+}
