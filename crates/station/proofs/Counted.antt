@@ -1,11 +1,11 @@
 -- One slot more: accounts and records as defined by place move as one take and one alternation move them.
-use Rattle.std.proofs.Common.{◌≡◌, ℕ, zero, suc, ◌+◌, ◌-◌, ◌<◌, ◌≤◌, Bool, true, false, cond, not, eqb, List, [], ◌∷◌, set, IfSome, Some, None, Option, sym, refl, ap, ◌∙◌, ap₂, ⊎_elim, add-one, arith}
+use Rattle.std.proofs.Common.{◌≡◌, ℕ, zero, suc, ◌+◌, ◌-◌, ◌<◌, ◌≤◌, Bool, true, false, cond, not, eqb, List, [], ◌∷◌, set, IfSome, Some, None, Option, sym, refl, ap, ◌∙◌, ap₂, subst, ⊎_elim, add-one, arith}
 use Rattle.std.proofs.lemmas.Bool.{cases_eq, cond-false, cond-true, eq-eqb, ne_eqb}
 use Rattle.bank.specs.Meaning.{Accounts, Meaning}
 use Rattle.station.specs.declared.line.ChannelRecord.{ChannelRecord}
 use Rattle.station.specs.declared.line.Line.{Line}
 use Rattle.station.specs.Lines.{alternated_record, entry, with_records}
-use Rattle.station.specs.Sending.{Owners, accounts_past, after_takes, alternated, before, is_owner, line_past, records_for, records_from, slot_word, taken_for, word_at}
+use Rattle.station.specs.Sending.{OfByte, Owners, accounts_past, after_takes, alternated, before, is_owner, line_past, records_for, records_from, slot_word, taken_for, word_at}
 
 -- the count of a channel's slots
 before_more : (owner : Owners) (c k : ℕ) → before owner c (k + 1) ≡ cond (is_owner (owner k) c) 1 0 + before owner c k
@@ -93,3 +93,9 @@ module _ (m : Meaning) (owner : Owners) (f held : Accounts) (l l₀ : Line) (k :
 
   pub turn_line : (after : Line) → after ≡ line_past (owner k) l → IfSome (owner k) (λ c. (0 < c) × (c ≤ 80)) → after ≡ with_records (records_for owner l₀.records (k + 1)) l₀
   turn_line after e known = e ∙ ap (line_past (owner k)) line ∙ records_more owner l₀.records k known l₀
+
+  pub turn_byte : OfByte m held (owner k) → ((s : ℕ) → s < k → OfByte m (taken_for m owner f s) (owner s)) → (s : ℕ) → s < k + 1 → OfByte m (taken_for m owner f s) (owner s)
+  turn_byte is so s h =
+      ⊎_elim
+      (λ same. subst (λ n. OfByte m (taken_for m owner f n) (owner n)) (sym same) (subst (λ a. OfByte m a (owner k)) accounts is))
+      (λ ne. so s (omega (arith, ne))) (cases_eq s k)

@@ -7,3 +7,4 @@ pub mod Pieces
 pub mod Receiving
 pub mod Refusals
 pub mod Sending
+pub mod Texts

@@ -1,5 +1,5 @@
 -- What a station sends: the words of the slots, from the takes of its bank and its channel records.
-use Rattle.std.specs.Prelude.{ℕ, zero, suc, ◌+◌, ◌*◌, ◌%◌, Bool, false, cond, not, List, [], ◌∷◌, map, Some, None, Option, ◌==◌}
+use Rattle.std.specs.Prelude.{ℕ, zero, suc, ◌+◌, ◌*◌, ◌%◌, ◌<◌, Bool, false, cond, not, List, [], ◌∷◌, map, IfSome, Some, None, Option, ◌==◌}
 use Rattle.std.specs.List.{range_with_len}
 use Rattle.bank.specs.declared.Envelope.{Envelope}
 use Rattle.bank.specs.Meaning.{Accounts, Meaning, after_take}
@@ -65,9 +65,17 @@ abbrev pub slot_word : Meaning → Accounts → List ChannelRecord → Option �
 slot_word m f rs None = 1023
 slot_word m f rs (Some c) = word (or_filler (m.taken c (f c)).0) (next_bit rs c)
 
+-- what is sent for a slot of that owner is an envelope of a byte, so that its word has the octet itself
+abbrev pub OfByte : Meaning → Accounts → Option ℕ → Type 0
+OfByte m f o = IfSome o (λ c. (or_filler (m.taken c (f c)).0).octet < 256)
+
 -- the word of slot k
 unfoldable pub word_at : Meaning → Owners → Accounts → List ChannelRecord → ℕ → ℕ
 word_at m owner f rs k = slot_word m (taken_for m owner f k) (records_for owner rs k) (owner k)
+
+-- the envelopes of all slots are such
+abbrev pub OfBytes : Meaning → Owners → Accounts → Type 0
+OfBytes m owner f = (k : ℕ) → k < 240 → OfByte m (taken_for m owner f k) (owner k)
 
 -- the words of all slots
 unfoldable pub words : Meaning → Owners → Accounts → List ChannelRecord → List ℕ

@@ -1,17 +1,29 @@
 // What a bit received concludes.
-ghost use Rattle.std.specs.Prelude.{◌≡◌, ℕ};
+ghost use Rattle.std.specs.Prelude.{◌≡◌, ℕ, Some};
 ghost use Rattle.station.specs.Events.{fault_code, fault_event, no_event};
+ghost use Rattle.station.specs.Texts.{delivery_text, fault_text};
 
 use bank::Envelope;
 use frame::Justification;
 use reception::FaultKind;
 use ring::Coded;
+use std::fmt;
 
 /// An envelope for a channel.
 #[derive(Clone, Copy, Debug, PartialEq, Eq)]
 pub struct Delivery {
     pub channel: u16,
     pub envelope: Envelope,
+}
+
+/// A delivery prints as its channel, its status bit and its octet.
+impl fmt::Display for Delivery {
+    ghost output = { λ d. Some (delivery_text d) };
+
+    fn fmt<W: fmt::Write>(&self, f: &mut fmt::Formatter<W>) -> fmt::Result {
+        let status = self.envelope.status as u8;
+        write!(f, "{} {status} {}", self.channel, self.envelope.octet)
+    }
 }
 
 /// A fault: its kind, its channel where it is an envelope alignment and otherwise 0, and how many bits were received with
@@ -22,6 +34,16 @@ pub struct Fault {
     pub kind: FaultKind,
     pub channel: u16,
     pub bits: u64,
+}
+
+/// A fault prints as the number of its kind, its channel and its count of bits.
+impl fmt::Display for Fault {
+    ghost output = { λ r. Some (fault_text r) };
+
+    fn fmt<W: fmt::Write>(&self, f: &mut fmt::Formatter<W>) -> fmt::Result {
+        let kind = self.kind.number();
+        write!(f, "{kind} {} {}", self.channel, self.bits)
+    }
 }
 
 impl Coded for Fault {

@@ -56,6 +56,7 @@ impl fmt::Display for ReceiveRefusal {
     ghost output = { λ r. Some (refused (receive_number r)) };
 
     fn fmt<W: fmt::Write>(&self, f: &mut fmt::Formatter<W>) -> fmt::Result {
-        write!(f, "refused {}", u8::from(*self))
+        let number = u8::from(*self);
+        write!(f, "refused {number}")
     }
 }

@@ -1,8 +1,9 @@
 // Sending a frame.
-ghost use Rattle.std.specs.Prelude.{◌≡◌, ◌≤◌, length, Ok};
+ghost use Rattle.std.specs.Prelude.{◌≡◌, ◌≤◌, length, IfOk, Ok};
 ghost use Rattle.channel_plan.specs.Tables.{owner_of};
 ghost use Rattle.frame.specs.Modes.{frame_length};
 ghost use Rattle.station.specs.Frames.{allowed, judged, next_check, sent_accounts, sent_answer, sent_buffer, sent_line};
+ghost use Rattle.station.specs.Sending.{OfBytes};
 
 use crate::line::Line;
 use crate::refusal::SendRefusal;
@@ -49,6 +50,7 @@ impl<B: Bank> Station<B> {
     pub fn send(&mut self, justification: i8, buffer: &mut [u8]) -> Result<usize, SendRefusal>
         ensures answer { result ≡ sent_answer (judged self.old.line.mode justification buffer.old) }
         ensures buffer { buffer.new ≡ sent_buffer B.meaning (owner_of self.old.plan.table) (B.account self.old.bank) self.old.line (judged self.old.line.mode justification buffer.old) buffer.old }
+        ensures bytes { IfOk result (λ n. OfBytes B.meaning (owner_of self.old.plan.table) (B.account self.old.bank)) }
         ensures line { self.new.line ≡ sent_line B.meaning (owner_of self.old.plan.table) (B.account self.old.bank) self.old.line (judged self.old.line.mode justification buffer.old) }
         ensures accounts { B.account self.new.bank ≡ sent_accounts B.meaning (owner_of self.old.plan.table) (B.account self.old.bank) self.old.line (judged self.old.line.mode justification buffer.old) }
         ensures plan { self.new.plan ≡ self.old.plan }
@@ -74,6 +76,7 @@ impl Line {
         requires { 2561 ≤ length buffer.old }
         ensures answer { result ≡ frame_length justification }
         ensures buffer { buffer.new ≡ sent_buffer B.meaning (owner_of plan.now.table) (B.account bank.old) self.old (Ok justification) buffer.old }
+        ensures bytes { OfBytes B.meaning (owner_of plan.now.table) (B.account bank.old) }
         ensures line { self.new ≡ sent_line B.meaning (owner_of plan.now.table) (B.account bank.old) self.old (Ok justification) }
         ensures accounts { B.account bank.new ≡ sent_accounts B.meaning (owner_of plan.now.table) (B.account bank.old) self.old (Ok justification) }
     {

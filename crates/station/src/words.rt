@@ -2,7 +2,7 @@
 ghost use Rattle.std.specs.Prelude.{◌≡◌, ◌<◌, ◌≤◌, IfSome};
 ghost use Rattle.channel_plan.specs.Tables.{owner_of};
 ghost use Rattle.station.specs.Lines.{with_records};
-ghost use Rattle.station.specs.Sending.{accounts_past, line_past, records_for, slot_word, taken_for, words};
+ghost use Rattle.station.specs.Sending.{OfByte, OfBytes, accounts_past, line_past, records_for, slot_word, taken_for, words};
 
 use crate::line::Line;
 use crate::slot::Slot;
@@ -24,6 +24,7 @@ impl Line {
         ensures word { result ≡ slot_word B.meaning (B.account bank.old) self.old.records (owner_of plan.now.table slot) }
         ensures accounts { B.account bank.new ≡ accounts_past B.meaning (owner_of plan.now.table slot) (B.account bank.old) }
         ensures line { self.new ≡ line_past (owner_of plan.now.table slot) self.old }
+        ensures byte { OfByte B.meaning (B.account bank.old) (owner_of plan.now.table slot) }
         ensures known { IfSome (owner_of plan.now.table slot) (λ c. (0 < c) × (c ≤ 80)) }
     {
         let Some(channel) = plan.owner(slot) else {
@@ -37,6 +38,7 @@ impl Line {
     // The words of all slots, in their order.
     pub(crate) fn send_words<B: Bank>(&mut self, plan: &Plan, bank: &mut B) -> [u16; 240]
         ensures words { result ≡ words B.meaning (owner_of plan.now.table) (B.account bank.old) self.old.records }
+        ensures bytes { OfBytes B.meaning (owner_of plan.now.table) (B.account bank.old) }
         ensures accounts { B.account bank.new ≡ taken_for B.meaning (owner_of plan.now.table) (B.account bank.old) 240 }
         ensures line { self.new ≡ with_records (records_for (owner_of plan.now.table) self.old.records 240) self.old }
     {

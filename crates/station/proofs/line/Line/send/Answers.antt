@@ -24,6 +24,7 @@ returns g c =
     record {
       answer = size;
       buffer = put;
+      bytes = c.send_words-words.ensures.bytes;
       line = λ i. record { mode = (left i).mode; number = (left i).number; check = check i; records = (left i).records; receiver = (left i).receiver };
       accounts = c.send_words-words.ensures.accounts;
     }
