@@ -1,5 +1,5 @@
 -- Division modulo 2: the remainder is linear, it is what a division leaves, and it is the only one.
-use Rattle.std.proofs.Common.{◌≡◌, ℕ, zero, suc, ◌+◌, ◌*◌, ◌/◌, ◌%◌, ◌<◌, ◌≤◌, List, [], ◌∷◌, length, sym, refl, ap, ◌∙◌, ap₂, add-zero, mod-eq_of_lt, arith}
+use Rattle.std.proofs.Common.{◌≡◌, ℕ, zero, suc, ◌+◌, ◌*◌, ◌/◌, ◌%◌, ◌<◌, ◌≤◌, List, [], ◌∷◌, length, fold, sym, refl, ap, ◌∙◌, ap₂, add-zero, mod-eq_of_lt, arith}
 use lib.Bits.{bit_xor, xor_assoc, xor_comm, xor_shr, xor_mod, xor_block, xor_self, xor_zero_r, xor_zero_l, xor_lt}
 use Rattle.frame.specs.Checks.{reduce, divide, remainder_after, remainder, polynomial_after, product_after, product, flipped, Remainder, CheckOf}
 
@@ -171,11 +171,8 @@ divide_high r b h k =
     let e : 1 ≡ (r * 2 + b % 2) / 65536 % 2 = omega arith in
     ap (λ x. bit_xor (r * 2 + b % 2) (x * 0x11021)) e
 
--- a bit more, and none
-pub after_more : (r b : ℕ) (bs : List ℕ) → remainder_after r (b ∷ bs) ≡ remainder_after (divide r b) bs
+-- bit after bit, as a program takes them
+pub remainder_by_fold : (n r : ℕ) (bs : List ℕ) → n ≡ fold divide r bs → n ≡ remainder_after r bs
 unfolding remainder_after
-after_more r b bs = refl
-
-pub after_none : (r : ℕ) → remainder_after r [] ≡ r
-unfolding remainder_after
-after_none r = refl
+remainder_by_fold n r [] e = e
+remainder_by_fold n r (b ∷ bs) e = remainder_by_fold n (divide r b) bs e

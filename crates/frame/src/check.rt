@@ -6,6 +6,7 @@ ghost use Rattle.frame.specs.Checks.{CheckOf, divide, remainder};
 const DIVISOR: u32 = 0x11021;
 
 /// The remainder with one bit more.
+#[tactic(auto, using(crate::proofs::Division::divide_high, crate::proofs::Division::divide_low, crate::proofs::Division::divide_lt))]
 pub fn divide_on(rest: u16, bit: u8) -> u16
     ensures { result ≡ divide rest bit }
 {
@@ -22,9 +23,5 @@ pub fn remainder_of(bits: &[u8]) -> u16
     ensures value { result ≡ remainder bits.now }
     ensures check { CheckOf bits.now result }
 {
-    let mut rest = 0;
-    for bit in bits {
-        rest = divide_on(rest, *bit);
-    }
-    rest
+    bits.iter().fold(0, |rest, bit| divide_on(rest, *bit))
 }

@@ -14,7 +14,7 @@ pub const LONGEST: usize = 2561;
 pub const PATTERN: u16 = 0b11111001101010;
 
 /// What differs from frame to frame. A word holds the ten bits of a slot: status, envelope alignment and octet.
-#[derive(Clone, Copy)]
+#[derive(Clone, Copy, Debug, PartialEq, Eq)]
 pub struct Content {
     pub blocked: bool,
     pub check: u16,
@@ -23,11 +23,11 @@ pub struct Content {
 }
 
 // Bit `index`, counted from the first sent, of a word of so many bits.
-fn sent_bit(bits: u16, word: u16, index: u16) -> u8
-    requires { bits ≤ 16 }
-    ensures { result ≡ sent_bit bits word index }
+fn sent_bit<const BITS: u16>(word: u16, index: u16) -> u8
+    requires { BITS ≤ 16 }
+    ensures { result ≡ sent_bit BITS word index }
 {
-    let shift = bits.saturating_sub(1).saturating_sub(index);
+    let shift = BITS.saturating_sub(1).saturating_sub(index);
     ((word >> shift) % 2) as u8
 }
 
@@ -35,14 +35,14 @@ fn sent_bit(bits: u16, word: u16, index: u16) -> u8
 pub fn pattern_bit(index: u8) -> u8
     ensures { result ≡ sent_bit 14 0b11111001101010 index }
 {
-    sent_bit(14, PATTERN, index as u16)
+    sent_bit::<14>(PATTERN, index as u16)
 }
 
 /// Bit `index`, 0 or 1, of the number of a subframe 1 to 4 less one.
 pub fn number_bit(subframe: u8, index: u8) -> u8
     ensures { result ≡ sent_bit 2 (subframe - 1) index }
 {
-    sent_bit(2, (subframe as u16).saturating_sub(1), index as u16)
+    sent_bit::<2>((subframe as u16).saturating_sub(1), index as u16)
 }
 
 impl Content {
@@ -50,13 +50,12 @@ impl Content {
         ensures { result ≡ padding_bit self.now subframe padding }
     {
         match padding {
-            Padding::Alarm => { if self.blocked { 0 } else { 1 } }
+            Padding::Alarm => u8::from(!self.blocked),
             Padding::One => 1,
-            Padding::Check(index) => sent_bit(16, self.check, index),
+            Padding::Check(index) => sent_bit::<16>(self.check, index),
             Padding::Pattern(index) => pattern_bit(index),
             Padding::Number(index) => number_bit(subframe, index),
-            Padding::Service(index) => sent_bit(
-                3,
+            Padding::Service(index) => sent_bit::<3>(
                 self.justification.service_word() as u16,
                 index as u16,
             ),
@@ -65,6 +64,7 @@ impl Content {
     }
 
     /// The bit at a place.
+    #[tactic(auto, unfolding(crate::specs::Frames::frame_bit))]
     pub fn bit_at(&self, mode: Mode, place: u16) -> u8
         ensures { result ≡ frame_bit mode self.now place }
     {
@@ -73,13 +73,14 @@ impl Content {
                 subframe,
                 padding_at(mode, subframe, index),
             ),
-            Role::Payload { slot, bit } => sent_bit(10, self.words[slot as usize], bit as u16),
+            Role::Payload { slot, bit } => sent_bit::<10>(self.words[slot as usize], bit as u16),
             Role::Added => 0,
         }
     }
 
     /// Writes the frame to the front of the buffer and answers its length; a buffer that could be too short for some
     /// frame is left.
+    #[tactic(auto, using(crate::proofs::Filled::written_more, crate::proofs::Filled::written_all), unfolding(crate::specs::Frames::frame))]
     pub fn fill(&self, mode: Mode, buffer: &mut [u8]) -> Option<usize>
         ensures length { result ≡ filled_length self.now buffer.old }
         ensures buffer { buffer.new ≡ filled mode self.now buffer.old }
@@ -88,8 +89,8 @@ impl Content {
             return None;
         }
         let length = self.justification.frame_length();
-        for place in 0..length {
-            buffer[place] = self.bit_at(mode, place as u16);
+        for (place, bit) in buffer[..length].iter_mut().enumerate() {
+            *bit = self.bit_at(mode, place as u16);
         }
         Some(length)
     }

@@ -8,6 +8,6 @@ pub mod padding;
 pub mod place;
 
 pub use content::Content;
-pub use mode::{Justification, Mode};
+pub use mode::{Justification, Mode, UnknownJustification};
 pub use padding::Padding;
 pub use place::Role;

@@ -1,16 +1,19 @@
 // Modes of a bearer, and the justification of a frame.
-ghost use Rattle.std.specs.Prelude.{◌≡◌};
+ghost use Rattle.std.specs.Prelude.{◌≡◌, ok_or};
 ghost use Rattle.frame.specs.Modes.{frame_length, justification_of, service_word};
 
+use std::error::Error;
+use std::fmt;
+
 /// Whether frames have one length, or are justified.
-#[derive(Clone, Copy, PartialEq, Eq)]
+#[derive(Clone, Copy, Debug, PartialEq, Eq)]
 pub enum Mode {
     Synchronous,
     Justified,
 }
 
 /// Whether a frame has a bit more or less than 2,560.
-#[derive(Clone, Copy, PartialEq, Eq)]
+#[derive(Clone, Copy, Debug, PartialEq, Eq)]
 pub enum Justification {
     Deleted,
     Unchanged,
@@ -18,18 +21,6 @@ pub enum Justification {
 }
 
 impl Justification {
-    /// The justification by its number, -1, 0 or 1.
-    pub fn from_number(number: i8) -> Option<Justification>
-        ensures { result ≡ justification_of number }
-    {
-        match number {
-            -1 => Some(Justification::Deleted),
-            0 => Some(Justification::Unchanged),
-            1 => Some(Justification::Added),
-            _ => None,
-        }
-    }
-
     /// How many bits a frame then has.
     pub fn frame_length(self) -> usize
         ensures { result ≡ frame_length self }
@@ -52,3 +43,31 @@ impl Justification {
         }
     }
 }
+
+/// A number, other than -1, 0 and 1, that is that of no justification.
+#[derive(Clone, Copy, Debug, PartialEq, Eq)]
+pub struct UnknownJustification(pub i8);
+
+/// The justification by its number, -1, 0 or 1.
+impl TryFrom<i8> for Justification {
+    type Error = UnknownJustification;
+
+    ghost try_from_gives = { λ number r. r ≡ ok_or (justification_of number) (record { 0 = number }) };
+
+    fn try_from(number: i8) -> Result<Self, UnknownJustification> {
+        match number {
+            -1 => Ok(Justification::Deleted),
+            0 => Ok(Justification::Unchanged),
+            1 => Ok(Justification::Added),
+            _ => Err(UnknownJustification(number)),
+        }
+    }
+}
+
+impl fmt::Display for UnknownJustification {
+    fn fmt<W: fmt::Write>(&self, f: &mut fmt::Formatter<W>) -> fmt::Result {
+        write!(f, "no justification has the number {}", self.0)
+    }
+}
+
+impl Error for UnknownJustification {}

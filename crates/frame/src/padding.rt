@@ -5,7 +5,7 @@ ghost use Rattle.frame.specs.Paddings.{padding};
 use crate::mode::Mode;
 
 /// What a padding bit holds; bits of a word are counted from 0, the first sent.
-#[derive(Clone, Copy, PartialEq, Eq)]
+#[derive(Clone, Copy, Debug, PartialEq, Eq)]
 pub enum Padding {
     /// A: 0 while the sender's own reception is blocked
     Alarm,
@@ -26,28 +26,14 @@ pub enum Padding {
 pub fn padding_at(mode: Mode, subframe: u8, index: u8) -> Padding
     ensures { result ≡ padding mode subframe index }
 {
-    if index <= 1 {
-        Padding::Alarm
-    } else if index <= 4 {
-        Padding::One
-    } else if index <= 8 {
-        Padding::Check(4 * (subframe as u16).saturating_sub(1) + (index as u16 - 5))
-    } else if index <= 20 {
-        Padding::One
-    } else if index <= 34 {
-        Padding::Pattern(index - 21)
-    } else if index <= 36 {
-        Padding::Number(index - 35)
-    } else {
-        match mode {
-            Mode::Synchronous => Padding::One,
-            Mode::Justified => {
-                if index <= 39 {
-                    Padding::Service(index - 37)
-                } else {
-                    Padding::Zero
-                }
-            }
-        }
+    match (index, mode) {
+        (0..=1, _) => Padding::Alarm,
+        (2..=4 | 9..=20, _) => Padding::One,
+        (5..=8, _) => Padding::Check(4 * (subframe as u16).saturating_sub(1) + (index as u16 - 5)),
+        (21..=34, _) => Padding::Pattern(index - 21),
+        (35..=36, _) => Padding::Number(index - 35),
+        (_, Mode::Synchronous) => Padding::One,
+        (37..=39, Mode::Justified) => Padding::Service(index - 37),
+        (_, Mode::Justified) => Padding::Zero,
     }
 }

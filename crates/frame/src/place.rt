@@ -4,7 +4,7 @@ ghost use Rattle.frame.specs.Places.{OnePlace, OneRole, place_of, role};
 
 /// Subframes are 1 to 4 and their padding bits P1 to P40; slots are 0 to 239 and their bits 0 to 9: status, envelope
 /// alignment and the octet, most significant bit first. `Added` is the bit that an added frame has at its end.
-#[derive(Clone, Copy, PartialEq, Eq)]
+#[derive(Clone, Copy, Debug, PartialEq, Eq)]
 pub enum Role {
     Padding { subframe: u8, index: u8 },
     Payload { slot: u8, bit: u8 },
@@ -39,19 +39,18 @@ pub fn place_of(role: Role) -> Option<u16>
     ensures one { OnePlace role result }
 {
     match role {
-        Role::Padding { subframe, index } => {
-            if subframe < 1 || subframe > 4 || index < 1 || index > 40 {
-                return None;
-            }
-            Some(16 * (40 * (subframe as u16 - 1) + (index as u16 - 1)) + 15)
-        }
-        Role::Payload { slot, bit } => {
-            if slot > 239 || bit > 9 {
-                return None;
-            }
+        Role::Padding {
+            subframe: subframe @ 1..=4,
+            index: index @ 1..=40,
+        } => Some(16 * (40 * (subframe as u16 - 1) + (index as u16 - 1)) + 15),
+        Role::Payload {
+            slot: slot @ 0..=239,
+            bit: bit @ 0..=9,
+        } => {
             let payload = 10 * slot as u16 + bit as u16;
             Some(payload + payload / 15)
         }
         Role::Added => Some(2560),
+        _ => None,
     }
 }

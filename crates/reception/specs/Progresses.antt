@@ -6,13 +6,13 @@ use Rattle.frame.specs.declared.padding.Padding.TheVariants as held
 use Rattle.frame.specs.Frames.{sent_bit}
 use Rattle.frame.specs.Modes.{frame_length}
 use Rattle.reception.specs.declared.progress.Heard.{Heard}
-use Rattle.reception.specs.declared.progress.Heard.TheVariants.{Nothing, Alarm, Pattern, WrongCheck, Words}
+use Rattle.reception.specs.declared.progress.Heard.TheVariants.{Alarm, RightPattern, WrongPattern, WrongCheck, Words}
 use Rattle.reception.specs.declared.state.Checking.{Checking}
 use Rattle.reception.specs.declared.state.Progress.{Progress}
 use Rattle.reception.specs.declared.state.Service.{Service}
 use Rattle.reception.specs.Checks.{checked_on, checking, divided_on, expected_after, is_wrong}
 use Rattle.reception.specs.Registers.{shift}
-use Rattle.reception.specs.Words.{is_disputed, justification_by, no_words, taken, with_bit}
+use Rattle.reception.specs.Words.{justification_by, no_words, told, with_bit}
 
 abbrev pub from : ℕ → Checking → Progress
 from p k = record { place = p; word = 0; right = true; service = no_words; check = k }
@@ -66,19 +66,23 @@ seen p s held.Zero b = p
 abbrev pub padded : Mode → Progress → ℕ → Padding → ℕ → Progress
 padded mode p s h b = moved_on mode (seen p s h b) b
 
+-- whether a pattern and the subframe's number were right
+abbrev pub pattern : Bool → Heard
+pattern right = cond right RightPattern WrongPattern
+
 -- the last bit of the last service word tells the justification
-abbrev pub words_heard : Service → ℕ → ℕ → Heard
-words_heard v s j = cond (s == 4 && j == 2) (Words (taken v.words) (is_disputed v.words)) Nothing
+abbrev pub words_heard : Service → ℕ → ℕ → Option Heard
+words_heard v s j = cond (s == 4 && j == 2) (Some (Words (told v.words))) None
 
 -- what a padding bit of subframe s shows
-abbrev pub heard_in : Progress → ℕ → Padding → ℕ → Heard
-heard_in p s held.Alarm b = Alarm
-heard_in p s held.One b = Nothing
-heard_in p s (held.Check k) b = cond (is_wrong p.check k b) WrongCheck Nothing
-heard_in p s (held.Pattern j) b = Nothing
-heard_in p s (held.Number j) b = cond (j == 1) (Pattern (still_right p (sent_bit 2 (s - 1) j) b)) Nothing
+abbrev pub heard_in : Progress → ℕ → Padding → ℕ → Option Heard
+heard_in p s held.Alarm b = Some Alarm
+heard_in p s held.One b = None
+heard_in p s (held.Check k) b = cond (is_wrong p.check k b) (Some WrongCheck) None
+heard_in p s (held.Pattern j) b = None
+heard_in p s (held.Number j) b = cond (j == 1) (Some (pattern (still_right p (sent_bit 2 (s - 1) j) b))) None
 heard_in p s (held.Service j) b = words_heard (with_bit p.service s j b) s j
-heard_in p s held.Zero b = Nothing
+heard_in p s held.Zero b = None
 
 -- bit j of a slot; the tenth completes its word
 abbrev pub filled : Mode → Progress → ℕ → ℕ → Progress

@@ -8,7 +8,7 @@ use Rattle.frame.specs.Places.{role}
 use Rattle.reception.specs.declared.progress.Heard.{Heard}
 use Rattle.reception.specs.declared.progress.Heard.TheVariants as heard
 use Rattle.reception.specs.declared.receiver.Conclusion.{Conclusion}
-use Rattle.reception.specs.declared.receiver.Conclusion.TheVariants.{Nothing, Word, Fault, Justification}
+use Rattle.reception.specs.declared.receiver.Conclusion.TheVariants.{Word, Fault, Justification}
 use Rattle.reception.specs.declared.receiver.FaultKind.{FaultKind}
 use Rattle.reception.specs.declared.receiver.FaultKind.TheVariants.{Lost, Regained, Check, EnvelopeAlignment, Words, AlarmBegun, AlarmEnded}
 use Rattle.reception.specs.declared.state.Hunt.{Hunt}
@@ -80,29 +80,29 @@ lost x = with_state hunting_state x
 
 -- what padding leaves of the far alarm and the errored frames
 abbrev pub heard_by : Receiver → Heard → ℕ → Receiver
-heard_by x heard.Nothing b = x
 heard_by x heard.Alarm b = record { state = x.state; alarm = (b == 1); errored = x.errored; bits = x.bits }
-heard_by x (heard.Pattern r) b = x
+heard_by x heard.RightPattern b = x
+heard_by x heard.WrongPattern b = x
 heard_by x heard.WrongCheck b = record { state = x.state; alarm = x.alarm; errored = min (x.errored + 1) 65535; bits = x.bits }
-heard_by x (heard.Words j d) b = x
+heard_by x (heard.Words told) b = x
 
 -- the far alarm, where the last bit was a
-abbrev pub alarm_fault : Bool → Bool → Conclusion
-alarm_fault true true = Nothing
-alarm_fault true false = Fault AlarmBegun
-alarm_fault false true = Fault AlarmEnded
-alarm_fault false false = Nothing
+abbrev pub alarm_fault : Bool → Bool → Option Conclusion
+alarm_fault true true = None
+alarm_fault true false = Some (Fault AlarmBegun)
+alarm_fault false true = Some (Fault AlarmEnded)
+alarm_fault false false = None
 
-abbrev pub concluded : Receiver → Heard → ℕ → Conclusion
-concluded x heard.Nothing b = Nothing
+abbrev pub concluded : Receiver → Heard → ℕ → Option Conclusion
 concluded x heard.Alarm b = alarm_fault x.alarm (b == 1)
-concluded x (heard.Pattern r) b = Nothing
-concluded x heard.WrongCheck b = Fault Check
-concluded x (heard.Words j d) b = Justification j d
+concluded x heard.RightPattern b = None
+concluded x heard.WrongPattern b = None
+concluded x heard.WrongCheck b = Some (Fault Check)
+concluded x (heard.Words told) b = Some (Justification told)
 
-abbrev pub word_told : ℕ → Option ℕ → Conclusion
-word_told k None = Nothing
-word_told k (Some w) = Word k w
+abbrev pub word_told : ℕ → Option ℕ → Option Conclusion
+word_told k None = None
+word_told k (Some w) = Some (Word k w)
 
 -- hunting: the first phase that equals the pattern wins
 abbrev pub hunted_state : Hunt → ℕ → Reception
@@ -113,63 +113,63 @@ abbrev pub named_state : Wait → Option ℕ → Reception
 named_state w None = Pending w
 named_state w (Some k) = Proving (joined k)
 
-abbrev pub named_fault : Option ℕ → Conclusion
-named_fault None = Nothing
-named_fault (Some k) = Fault Regained
+abbrev pub named_fault : Option ℕ → Option Conclusion
+named_fault None = None
+named_fault (Some k) = Some (Fault Regained)
 
 -- proving: a right pattern leads to aligned, a wrong one loses alignment
-abbrev pub proved_by : Heard → Progress → Receiver → ℕ → Receiver
-proved_by heard.Nothing q x b = heard_by (with_state (Proving q) x) heard.Nothing b
-proved_by heard.Alarm q x b = heard_by (with_state (Proving q) x) heard.Alarm b
-proved_by (heard.Pattern true) q x b = with_state (Aligned q 0) x
-proved_by (heard.Pattern false) q x b = lost x
-proved_by heard.WrongCheck q x b = heard_by (with_state (Proving q) x) heard.WrongCheck b
-proved_by (heard.Words j d) q x b = heard_by (with_state (Proving q) x) (heard.Words j d) b
+abbrev pub proved_by : Option Heard → Progress → Receiver → ℕ → Receiver
+proved_by None q x b = with_state (Proving q) x
+proved_by (Some heard.Alarm) q x b = heard_by (with_state (Proving q) x) heard.Alarm b
+proved_by (Some heard.RightPattern) q x b = with_state (Aligned q 0) x
+proved_by (Some heard.WrongPattern) q x b = lost x
+proved_by (Some heard.WrongCheck) q x b = heard_by (with_state (Proving q) x) heard.WrongCheck b
+proved_by (Some (heard.Words told)) q x b = heard_by (with_state (Proving q) x) (heard.Words told) b
 
-abbrev pub proved_fault : Heard → Receiver → ℕ → Conclusion
-proved_fault heard.Nothing x b = concluded x heard.Nothing b
-proved_fault heard.Alarm x b = concluded x heard.Alarm b
-proved_fault (heard.Pattern true) x b = Nothing
-proved_fault (heard.Pattern false) x b = Fault Lost
-proved_fault heard.WrongCheck x b = concluded x heard.WrongCheck b
-proved_fault (heard.Words j d) x b = concluded x (heard.Words j d) b
+abbrev pub proved_fault : Option Heard → Receiver → ℕ → Option Conclusion
+proved_fault None x b = None
+proved_fault (Some heard.Alarm) x b = concluded x heard.Alarm b
+proved_fault (Some heard.RightPattern) x b = None
+proved_fault (Some heard.WrongPattern) x b = Some (Fault Lost)
+proved_fault (Some heard.WrongCheck) x b = concluded x heard.WrongCheck b
+proved_fault (Some (heard.Words told)) x b = concluded x (heard.Words told) b
 
 -- aligned: a right pattern clears the count of n wrong ones, the third wrong one in a row loses alignment
-abbrev pub aligned_by : Heard → Progress → ℕ → Receiver → ℕ → Receiver
-aligned_by heard.Nothing q n x b = heard_by (with_state (Aligned q n) x) heard.Nothing b
-aligned_by heard.Alarm q n x b = heard_by (with_state (Aligned q n) x) heard.Alarm b
-aligned_by (heard.Pattern true) q n x b = with_state (Aligned q 0) x
-aligned_by (heard.Pattern false) q n x b = cond (nat_lt n 2) (with_state (Aligned q (n + 1)) x) (lost x)
-aligned_by heard.WrongCheck q n x b = heard_by (with_state (Aligned q n) x) heard.WrongCheck b
-aligned_by (heard.Words j d) q n x b = heard_by (with_state (Aligned q n) x) (heard.Words j d) b
+abbrev pub aligned_by : Option Heard → Progress → ℕ → Receiver → ℕ → Receiver
+aligned_by None q n x b = with_state (Aligned q n) x
+aligned_by (Some heard.Alarm) q n x b = heard_by (with_state (Aligned q n) x) heard.Alarm b
+aligned_by (Some heard.RightPattern) q n x b = with_state (Aligned q 0) x
+aligned_by (Some heard.WrongPattern) q n x b = cond (nat_lt n 2) (with_state (Aligned q (n + 1)) x) (lost x)
+aligned_by (Some heard.WrongCheck) q n x b = heard_by (with_state (Aligned q n) x) heard.WrongCheck b
+aligned_by (Some (heard.Words told)) q n x b = heard_by (with_state (Aligned q n) x) (heard.Words told) b
 
-abbrev pub aligned_fault : Heard → ℕ → Receiver → ℕ → Conclusion
-aligned_fault heard.Nothing n x b = concluded x heard.Nothing b
-aligned_fault heard.Alarm n x b = concluded x heard.Alarm b
-aligned_fault (heard.Pattern true) n x b = Nothing
-aligned_fault (heard.Pattern false) n x b = cond (nat_lt n 2) Nothing (Fault Lost)
-aligned_fault heard.WrongCheck n x b = concluded x heard.WrongCheck b
-aligned_fault (heard.Words j d) n x b = concluded x (heard.Words j d) b
+abbrev pub aligned_fault : Option Heard → ℕ → Receiver → ℕ → Option Conclusion
+aligned_fault None n x b = None
+aligned_fault (Some heard.Alarm) n x b = concluded x heard.Alarm b
+aligned_fault (Some heard.RightPattern) n x b = None
+aligned_fault (Some heard.WrongPattern) n x b = cond (nat_lt n 2) None (Some (Fault Lost))
+aligned_fault (Some heard.WrongCheck) n x b = concluded x heard.WrongCheck b
+aligned_fault (Some (heard.Words told)) n x b = concluded x (heard.Words told) b
 
 abbrev pub proving_at : Mode → Role → Progress → Receiver → ℕ → Receiver
 proving_at mode (Padding s i) p x b = proved_by (heard_in p s (padding mode s i) b) (padded mode p s (padding mode s i) b) x b
 proving_at mode (Payload k j) p x b = with_state (Proving (filled mode p j b)) x
 proving_at mode Added p x b = with_state (Proving (moved_on mode p b)) x
 
-abbrev pub proving_shows : Mode → Role → Progress → Receiver → ℕ → Conclusion
+abbrev pub proving_shows : Mode → Role → Progress → Receiver → ℕ → Option Conclusion
 proving_shows mode (Padding s i) p x b = proved_fault (heard_in p s (padding mode s i) b) x b
 proving_shows mode (Payload k j) p x b = word_told k (word_in p j b)
-proving_shows mode Added p x b = Nothing
+proving_shows mode Added p x b = None
 
 abbrev pub aligned_at : Mode → Role → Progress → ℕ → Receiver → ℕ → Receiver
 aligned_at mode (Padding s i) p n x b = aligned_by (heard_in p s (padding mode s i) b) (padded mode p s (padding mode s i) b) n x b
 aligned_at mode (Payload k j) p n x b = with_state (Aligned (filled mode p j b) n) x
 aligned_at mode Added p n x b = with_state (Aligned (moved_on mode p b) n) x
 
-abbrev pub aligned_shows : Mode → Role → Progress → ℕ → Receiver → ℕ → Conclusion
+abbrev pub aligned_shows : Mode → Role → Progress → ℕ → Receiver → ℕ → Option Conclusion
 aligned_shows mode (Padding s i) p n x b = aligned_fault (heard_in p s (padding mode s i) b) n x b
 aligned_shows mode (Payload k j) p n x b = word_told k (word_in p j b)
-aligned_shows mode Added p n x b = Nothing
+aligned_shows mode Added p n x b = None
 
 abbrev pub step_in : Mode → Reception → Receiver → ℕ → Receiver
 step_in mode (Hunting h) x b = with_state (hunted_state h b) x
@@ -177,8 +177,8 @@ step_in mode (Pending w) x b = with_state (named_state (waited_on w b) (subframe
 step_in mode (Proving p) x b = proving_at mode (role p.place) p x b
 step_in mode (Aligned p n) x b = aligned_at mode (role p.place) p n x b
 
-abbrev pub shows_in : Mode → Reception → Receiver → ℕ → Conclusion
-shows_in mode (Hunting h) x b = Nothing
+abbrev pub shows_in : Mode → Reception → Receiver → ℕ → Option Conclusion
+shows_in mode (Hunting h) x b = None
 shows_in mode (Pending w) x b = named_fault (subframe_after w b)
 shows_in mode (Proving p) x b = proving_shows mode (role p.place) p x b
 shows_in mode (Aligned p n) x b = aligned_shows mode (role p.place) p n x b
@@ -188,5 +188,5 @@ unfoldable pub stepped : Mode → Receiver → ℕ → Receiver
 stepped mode x b = step_in mode x.state (counted x) (b % 2)
 
 -- what the bit shows
-unfoldable pub conclusion : Mode → Receiver → ℕ → Conclusion
+unfoldable pub conclusion : Mode → Receiver → ℕ → Option Conclusion
 conclusion mode x b = shows_in mode x.state x (b % 2)

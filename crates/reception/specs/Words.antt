@@ -30,6 +30,10 @@ shown ws w = is_word (slice_index_or ws 0 None) w + is_word (slice_index_or ws 1
 unfoldable pub has_majority : List (Option ℕ) → ℕ → Bool
 has_majority ws w = nat_le 3 (shown ws w)
 
+-- the justification whose service word at least three of the four words show
+abbrev pub majority : List (Option ℕ) → Option Justification
+majority ws = cond (has_majority ws 0b001) (Some Deleted) (cond (has_majority ws 0b100) (Some Added) (cond (has_majority ws 0b010) (Some Unchanged) None))
+
 -- the service word that at least three of the four words show, or else none
 abbrev pub taken : List (Option ℕ) → Justification
 taken ws = cond (has_majority ws 0b001) Deleted (cond (has_majority ws 0b100) Added Unchanged)
@@ -45,3 +49,7 @@ are_complete ws = is_some (slice_index_or ws 0 None) && (is_some (slice_index_or
 -- four words were received, and no service word has a majority of them
 abbrev pub is_disputed : List (Option ℕ) → Bool
 is_disputed ws = are_complete ws && (not (has_majority ws 0b001) && (not (has_majority ws 0b010) && not (has_majority ws 0b100)))
+
+-- the justification that the words tell: none where they dispute it
+abbrev pub told : List (Option ℕ) → Option Justification
+told ws = cond (is_disputed ws) None (Some (taken ws))

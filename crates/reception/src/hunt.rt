@@ -2,6 +2,7 @@
 ghost use Rattle.std.specs.Prelude.{◌≡◌, false};
 ghost use Rattle.reception.specs.Hunts.{fresh, found, hunted_on, waited_on, subframe_after};
 
+use crate::register::shift;
 use crate::state::{Hunt, Wait};
 use frame::content::PATTERN;
 
@@ -21,7 +22,7 @@ impl Hunt {
         ensures left { self.new ≡ hunted_on self.old bit }
     {
         let phase = (self.count % 16) as usize;
-        let register = ((self.registers[phase] as u32 * 2 + bit as u32) % 16384) as u16;
+        let register = shift::<14>(self.registers[phase], bit);
         self.registers[phase] = register;
         self.count = self.count.wrapping_add(1);
         register == PATTERN
@@ -43,13 +44,15 @@ impl Wait {
         ensures answer { result ≡ subframe_after self.old bit }
         ensures left { self.new ≡ waited_on self.old bit }
     {
-        if self.since >= 31 {
-            return Some(2 * self.high as u16 + bit as u16);
+        match self.since {
+            0..=30 => {
+                if self.since == 15 {
+                    self.high = bit == 1;
+                }
+                self.since += 1;
+                None
+            }
+            _ => Some(2 * u16::from(self.high) + u16::from(bit)),
         }
-        if self.since == 15 {
-            self.high = bit == 1;
-        }
-        self.since += 1;
-        None
     }
 }

@@ -4,6 +4,7 @@
 pub mod hunt;
 pub mod progress;
 pub mod receiver;
+mod register;
 pub mod service;
 pub mod state;
 

@@ -2,33 +2,35 @@
 ghost use Rattle.std.specs.Prelude.{◌≡◌};
 ghost use Rattle.frame.specs.Paddings.{padding};
 ghost use Rattle.frame.specs.declared.padding.Padding.TheVariants.{Number};
-ghost use Rattle.reception.specs.Checks.{checked_on, expected_after, is_wrong};
+ghost use Rattle.reception.specs.Checks.{checked_on, checking, expected_after, is_wrong};
 ghost use Rattle.reception.specs.Words.{justification_by};
-ghost use Rattle.reception.specs.Progresses.{filled, heard_in, joined, moved_on, padded, placed, seen, word_in};
+ghost use Rattle.reception.specs.Progresses.{filled, from, heard_in, joined, moved_on, padded, placed, seen, word_in};
 
+use crate::register::shift;
 use crate::state::{Checking, Progress, Service};
 use frame::check::divide_on;
 use frame::content::{number_bit, pattern_bit};
 use frame::padding::padding_at;
 use frame::{Justification, Mode, Padding};
 
-/// What a padding bit shows.
-#[derive(Clone, Copy)]
+/// What a padding bit shows, where it shows something.
+#[derive(Clone, Copy, Debug, PartialEq, Eq)]
 pub enum Heard {
-    Nothing,
     /// the far alarm bit
     Alarm,
-    /// whether a pattern and the subframe's number were right
-    Pattern(bool),
+    /// a pattern and the subframe's number, right as a whole
+    RightPattern,
+    /// a pattern and the subframe's number, of which some bit is wrong
+    WrongPattern,
     /// a check that is not the remainder of the frame before
     WrongCheck,
-    /// the justification of the frame, and whether its words dispute it
-    Words(Justification, bool),
+    /// the justification that the words of the frame tell; they tell none where they dispute it
+    Words(Option<Justification>),
 }
 
 impl Checking {
     fn new(whole: bool, expected: Option<u16>) -> Checking
-        ensures { result ≡ record { received = 0; remainder = 0; whole = whole; expected = expected } }
+        ensures { result ≡ checking whole expected }
     {
         Checking {
             received: 0,
@@ -43,11 +45,9 @@ impl Checking {
         ensures wrong { result ≡ is_wrong self.old index bit }
         ensures left { self.new ≡ checked_on self.old bit }
     {
-        self.received = ((self.received as u32 * 2 + bit as u32) % 65536) as u16;
-        match self.expected {
-            Some(expected) => index == 15 && self.received != expected,
-            None => false,
-        }
+        let received = shift::<16>(self.received, bit);
+        self.received = received;
+        index == 15 && self.expected.is_some_and(|expected| received != expected)
     }
 
     // What the check bits of the next frame should be.
@@ -55,43 +55,38 @@ impl Checking {
         ensures { result ≡ expected_after mode self.now }
     {
         match mode {
-            Mode::Synchronous => {
-                if self.whole {
-                    Some(self.remainder)
-                } else {
-                    None
-                }
-            }
+            Mode::Synchronous => self.whole.then_some(self.remainder),
             Mode::Justified => None,
         }
     }
 }
 
 impl Progress {
+    // From a place on, with the check so far.
+    fn from_place(place: u16, check: Checking) -> Progress
+        ensures { result ≡ from place check }
+    {
+        Progress {
+            place,
+            word: 0,
+            right: true,
+            service: Service::new(),
+            check,
+        }
+    }
+
     // Before the first bit of a frame; there was none before it.
     pub(crate) fn placed() -> Progress
         ensures { result ≡ placed }
     {
-        Progress {
-            place: 0,
-            word: 0,
-            right: true,
-            service: Service::new(),
-            check: Checking::new(true, None),
-        }
+        Progress::from_place(0, Checking::new(true, None))
     }
 
     // After P36 of the subframe that has this many before it.
     pub(crate) fn joined(before: u16) -> Progress
         ensures { result ≡ joined before }
     {
-        Progress {
-            place: 640 * (before % 4) + 576,
-            word: 0,
-            right: true,
-            service: Service::new(),
-            check: Checking::new(false, None),
-        }
+        Progress::from_place(640 * (before % 4) + 576, Checking::new(false, None))
     }
 
     // The justification of the frame, by the words received so far.
@@ -105,7 +100,7 @@ impl Progress {
     }
 
     // On to the next place, or to the next frame.
-    fn advance(&mut self, mode: Mode, bit: u8)
+    pub(crate) fn advance(&mut self, mode: Mode, bit: u8)
         ensures { self.new ≡ moved_on mode self.old bit }
     {
         self.check.remainder = divide_on(self.check.remainder, bit);
@@ -119,7 +114,13 @@ impl Progress {
     }
 
     // Takes a padding bit.
-    pub(crate) fn hear_padding(&mut self, mode: Mode, subframe: u8, index: u8, bit: u8) -> Heard
+    pub(crate) fn hear_padding(
+        &mut self,
+        mode: Mode,
+        subframe: u8,
+        index: u8,
+        bit: u8,
+    ) -> Option<Heard>
         ensures heard { result ≡ heard_in self.old subframe (padding mode subframe index) bit }
         ensures left { self.new ≡ padded mode self.old subframe (padding mode subframe index) bit }
     {
@@ -129,50 +130,39 @@ impl Progress {
     }
 
     // What a padding bit shows and leaves, before the place moves on.
-    fn see(&mut self, subframe: u8, padding: Padding, bit: u8) -> Heard
+    fn see(&mut self, subframe: u8, padding: Padding, bit: u8) -> Option<Heard>
         ensures heard { result ≡ heard_in self.old subframe padding bit }
         ensures left { self.new ≡ seen self.old subframe padding bit }
     {
         match padding {
-            Padding::Alarm => Heard::Alarm,
-            Padding::One => Heard::Nothing,
-            Padding::Zero => Heard::Nothing,
-            Padding::Check(k) => {
-                if self.check.hear(k, bit) {
-                    Heard::WrongCheck
-                } else {
-                    Heard::Nothing
-                }
-            }
+            Padding::Alarm => Some(Heard::Alarm),
+            Padding::One | Padding::Zero => None,
+            Padding::Check(k) => self.check.hear(k, bit).then_some(Heard::WrongCheck),
             Padding::Pattern(j) => {
                 self.right = self.right && bit == pattern_bit(j);
-                Heard::Nothing
+                None
             }
             Padding::Number(j) => self.see_number(subframe, j, bit),
             Padding::Service(j) => {
                 self.service.hear(subframe, j, bit);
-                if subframe == 4 && j == 2 {
-                    Heard::Words(self.service.taken(), self.service.disputed())
-                } else {
-                    Heard::Nothing
-                }
+                (subframe == 4 && j == 2).then(|| Heard::Words(self.service.told()))
             }
         }
     }
 
     // A bit of the subframe's number; the second ends the pattern.
-    fn see_number(&mut self, subframe: u8, index: u8, bit: u8) -> Heard
+    fn see_number(&mut self, subframe: u8, index: u8, bit: u8) -> Option<Heard>
         ensures heard { result ≡ heard_in self.old subframe (Number index) bit }
         ensures left { self.new ≡ seen self.old subframe (Number index) bit }
     {
         let right = self.right && bit == number_bit(subframe, index);
-        if index == 1 {
-            self.right = true;
-            Heard::Pattern(right)
+        let ends = index == 1;
+        self.right = ends || right;
+        ends.then_some(if right {
+            Heard::RightPattern
         } else {
-            self.right = right;
-            Heard::Nothing
-        }
+            Heard::WrongPattern
+        })
     }
 
     // Takes bit `index` of a slot, and answers the slot's word where it is complete.
@@ -180,16 +170,10 @@ impl Progress {
         ensures word { result ≡ word_in self.old index bit }
         ensures left { self.new ≡ filled mode self.old index bit }
     {
-        let word = ((self.word as u32 * 2 + bit as u32) % 1024) as u16;
-        self.word = if index == 9 { 0 } else { word };
+        let word = shift::<10>(self.word, bit);
+        let ends = index == 9;
+        self.word = if ends { 0 } else { word };
         self.advance(mode, bit);
-        if index == 9 { Some(word) } else { None }
-    }
-
-    // Takes the bit that an added frame has at its end.
-    pub(crate) fn hear_added(&mut self, mode: Mode, bit: u8)
-        ensures { self.new ≡ moved_on mode self.old bit }
-    {
-        self.advance(mode, bit);
+        ends.then_some(word)
     }
 }

@@ -5,15 +5,16 @@ ghost use Rattle.reception.specs.declared.receiver.Conclusion.TheVariants.{Fault
 ghost use Rattle.reception.specs.declared.receiver.FaultKind.TheVariants.{Lost};
 ghost use Rattle.reception.specs.declared.state.Reception.TheVariants.{Hunting};
 ghost use Rattle.reception.specs.Hunted.{HuntsOn, hunt_after};
-ghost use Rattle.reception.specs.Steps.{concluded, conclusion, fresh_receiver, heard_by, hunting_state, is_blocked, kind_number, lost, place_in, placed_state, state_number, stepped, word_told, wrong_in};
+ghost use Rattle.reception.specs.Steps.{concluded, conclusion, fresh_receiver, heard_by, hunting_state, is_blocked, kind_number, lost, place_in, placed_state, state_number, stepped, wrong_in};
 
 use crate::progress::Heard;
 use crate::state::{Hunt, Progress, Receiver, Reception, Wait};
 use frame::place::role_at;
 use frame::{Justification, Mode, Role};
+use std::mem;
 
 /// The kinds of faults.
-#[derive(Clone, Copy)]
+#[derive(Clone, Copy, Debug, PartialEq, Eq)]
 pub enum FaultKind {
     /// alignment was lost
     Lost,
@@ -31,11 +32,11 @@ pub enum FaultKind {
     AlarmEnded,
 }
 
-impl FaultKind {
-    pub fn number(self) -> u8
-        ensures { result ≡ kind_number self }
-    {
-        match self {
+impl From<FaultKind> for u8 {
+    ghost from_gives = { λ kind number. number ≡ kind_number kind };
+
+    fn from(kind: FaultKind) -> u8 {
+        match kind {
             FaultKind::Lost => 1,
             FaultKind::Regained => 2,
             FaultKind::Check => 3,
@@ -47,21 +48,15 @@ impl FaultKind {
     }
 }
 
-/// What a bit received shows.
-#[derive(Clone, Copy)]
+/// What a bit received shows, where it shows something.
+#[derive(Clone, Copy, Debug, PartialEq, Eq)]
 pub enum Conclusion {
-    Nothing,
     /// the ten bits of a slot are there
-    Word {
-        slot: u8,
-        bits: u16,
-    },
+    Word { slot: u8, bits: u16 },
     Fault(FaultKind),
-    /// the frame's justification is known, and whether its words dispute it
-    Justification {
-        taken: Justification,
-        disputed: bool,
-    },
+    /// the frame's words are there: the justification that they tell, or none, where they dispute it and the frame is
+    /// taken to be unchanged
+    Justification(Option<Justification>),
 }
 
 impl Reception {
@@ -80,26 +75,12 @@ impl Reception {
         Reception::Hunting(Hunt::new())
     }
 
-    /// Hunting 0, pending 1, proving 2, aligned 3.
-    pub fn number(&self) -> u8
-        ensures { result ≡ state_number self.now }
-    {
-        match self {
-            Reception::Hunting(_) => 0,
-            Reception::Pending(_) => 1,
-            Reception::Proving(_) => 2,
-            Reception::Aligned(_, _) => 3,
-        }
-    }
-
     /// How many wrong patterns came in a row.
     pub fn wrong(&self) -> u8
         ensures { result ≡ wrong_in self.now }
     {
         match self {
-            Reception::Hunting(_) => 0,
-            Reception::Pending(_) => 0,
-            Reception::Proving(_) => 0,
+            Reception::Hunting(_) | Reception::Pending(_) | Reception::Proving(_) => 0,
             Reception::Aligned(_, wrong) => *wrong,
         }
     }
@@ -108,23 +89,31 @@ impl Reception {
     pub fn is_blocked(&self) -> bool
         ensures { result ≡ is_blocked self.now }
     {
-        match self {
-            Reception::Hunting(_) => true,
-            Reception::Pending(_) => true,
-            Reception::Proving(_) => false,
-            Reception::Aligned(_, _) => false,
-        }
+        matches!(self, Reception::Hunting(_) | Reception::Pending(_))
     }
 
-    // The place of the next bit, where it is known.
+    // The place of the next bit. While blocked it is 0, and its role isn't looked at: no Option, since a step is one
+    // match on the state and the role together.
     fn place(&self) -> u16
         ensures { result ≡ place_in self.now }
     {
         match self {
+            Reception::Hunting(_) | Reception::Pending(_) => 0,
+            Reception::Proving(progress) | Reception::Aligned(progress, _) => progress.place,
+        }
+    }
+}
+
+/// Hunting 0, pending 1, proving 2, aligned 3.
+impl From<&Reception> for u8 {
+    ghost from_gives = { λ state number. number ≡ state_number state.now };
+
+    fn from(state: &Reception) -> u8 {
+        match state {
             Reception::Hunting(_) => 0,
-            Reception::Pending(_) => 0,
-            Reception::Proving(progress) => progress.place,
-            Reception::Aligned(progress, _) => progress.place,
+            Reception::Pending(_) => 1,
+            Reception::Proving(_) => 2,
+            Reception::Aligned(_, _) => 3,
         }
     }
 }
@@ -152,41 +141,37 @@ impl Receiver {
     }
 
     // What a padding bit that ends no pattern shows, and leaves of the alarm and the errored frames.
-    fn conclude(&mut self, heard: Heard, bit: u8) -> Conclusion
+    fn conclude(&mut self, heard: Heard, bit: u8) -> Option<Conclusion>
         ensures says { result ≡ concluded self.old heard bit }
         ensures left { self.new ≡ heard_by self.old heard bit }
     {
         match heard {
-            Heard::Nothing => Conclusion::Nothing,
-            Heard::Pattern(_) => Conclusion::Nothing,
+            Heard::RightPattern | Heard::WrongPattern => None,
             Heard::Alarm => self.hear_alarm(bit),
             Heard::WrongCheck => {
                 self.errored = self.errored.saturating_add(1);
-                Conclusion::Fault(FaultKind::Check)
+                Some(Conclusion::Fault(FaultKind::Check))
             }
-            Heard::Words(taken, disputed) => Conclusion::Justification { taken, disputed },
+            Heard::Words(told) => Some(Conclusion::Justification(told)),
         }
     }
 
     // Compares the far alarm bit with the last.
-    fn hear_alarm(&mut self, bit: u8) -> Conclusion
+    fn hear_alarm(&mut self, bit: u8) -> Option<Conclusion>
         ensures says { result ≡ concluded self.old Alarm bit }
         ensures left { self.new ≡ heard_by self.old Alarm bit }
     {
         let alarm = bit == 1;
-        if alarm == self.alarm {
-            return Conclusion::Nothing;
-        }
-        self.alarm = alarm;
-        if alarm {
-            Conclusion::Fault(FaultKind::AlarmEnded)
-        } else {
-            Conclusion::Fault(FaultKind::AlarmBegun)
+        match (mem::replace(&mut self.alarm, alarm), alarm) {
+            (true, false) => Some(Conclusion::Fault(FaultKind::AlarmBegun)),
+            (false, true) => Some(Conclusion::Fault(FaultKind::AlarmEnded)),
+            (true, true) | (false, false) => None,
         }
     }
 
     /// Takes the next bit, the lowest of `bit`, and answers what it shows.
-    pub fn step(&mut self, mode: Mode, bit: u8) -> Conclusion
+    #[tactic(auto, unfolding(crate::specs::Steps::conclusion, crate::specs::Steps::stepped))]
+    pub fn step(&mut self, mode: Mode, bit: u8) -> Option<Conclusion>
         ensures says { result ≡ conclusion mode self.old bit }
         ensures left { self.new ≡ stepped mode self.old bit }
         ensures hunt { HuntsOn self.old bit self.new }
@@ -199,66 +184,52 @@ impl Receiver {
                 if hunt.hear(bit) {
                     self.state = Reception::Pending(Wait::new());
                 }
-                Conclusion::Nothing
+                None
             }
-            (Reception::Pending(wait), _) => match wait.hear(bit) {
-                Some(before) => {
-                    self.state = Reception::Proving(Progress::joined(before));
-                    Conclusion::Fault(FaultKind::Regained)
-                }
-                None => Conclusion::Nothing,
-            },
+            (Reception::Pending(wait), _) => {
+                let before = wait.hear(bit)?;
+                self.state = Reception::Proving(Progress::joined(before));
+                Some(Conclusion::Fault(FaultKind::Regained))
+            }
             (Reception::Proving(progress), Role::Padding { subframe, index }) => {
-                match progress.hear_padding(mode, subframe, index, bit) {
-                    Heard::Pattern(true) => {
+                match progress.hear_padding(mode, subframe, index, bit)? {
+                    Heard::RightPattern => {
                         self.state = Reception::Aligned(*progress, 0);
-                        Conclusion::Nothing
+                        None
                     }
-                    Heard::Pattern(false) => self.lose(),
+                    Heard::WrongPattern => Some(self.lose()),
                     heard => self.conclude(heard, bit),
                 }
             }
             (Reception::Aligned(progress, wrong), Role::Padding { subframe, index }) => {
-                match progress.hear_padding(mode, subframe, index, bit) {
-                    Heard::Pattern(true) => {
+                match progress.hear_padding(mode, subframe, index, bit)? {
+                    Heard::RightPattern => {
                         *wrong = 0;
-                        Conclusion::Nothing
+                        None
                     }
-                    Heard::Pattern(false) => {
-                        if *wrong < 2 {
-                            *wrong += 1;
-                            Conclusion::Nothing
-                        } else {
-                            self.lose()
-                        }
+                    Heard::WrongPattern if *wrong < 2 => {
+                        *wrong += 1;
+                        None
                     }
+                    Heard::WrongPattern => Some(self.lose()),
                     heard => self.conclude(heard, bit),
                 }
             }
-            (Reception::Proving(progress), Role::Payload { slot, bit: index }) => {
-                told(slot, progress.hear_payload(mode, index, bit))
-            }
-            (Reception::Aligned(progress, _), Role::Payload { slot, bit: index }) => {
-                told(slot, progress.hear_payload(mode, index, bit))
-            }
+            // These states have arms of their own, since a proof doesn't know what is written through a binding of both.
+            (Reception::Proving(progress), Role::Payload { slot, bit: index }) => progress
+                .hear_payload(mode, index, bit)
+                .map(|bits| Conclusion::Word { slot, bits }),
+            (Reception::Aligned(progress, _), Role::Payload { slot, bit: index }) => progress
+                .hear_payload(mode, index, bit)
+                .map(|bits| Conclusion::Word { slot, bits }),
             (Reception::Proving(progress), Role::Added) => {
-                progress.hear_added(mode, bit);
-                Conclusion::Nothing
+                progress.advance(mode, bit);
+                None
             }
             (Reception::Aligned(progress, _), Role::Added) => {
-                progress.hear_added(mode, bit);
-                Conclusion::Nothing
+                progress.advance(mode, bit);
+                None
             }
         }
-    }
-}
-
-// That the word of a slot is there.
-fn told(slot: u8, word: Option<u16>) -> Conclusion
-    ensures { result ≡ word_told slot word }
-{
-    match word {
-        Some(bits) => Conclusion::Word { slot, bits },
-        None => Conclusion::Nothing,
     }
 }

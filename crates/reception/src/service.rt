@@ -1,7 +1,8 @@
 // The service words of a frame, and the justification that they tell.
 ghost use Rattle.std.specs.Prelude.{◌≡◌};
-ghost use Rattle.reception.specs.Words.{are_complete, has_majority, is_disputed, is_word, no_words, shown, taken, with_bit};
+ghost use Rattle.reception.specs.Words.{are_complete, has_majority, majority, no_words, taken, told, with_bit};
 
+use crate::register::shift;
 use crate::state::Service;
 use frame::Justification;
 
@@ -19,7 +20,7 @@ impl Service {
     pub(crate) fn hear(&mut self, subframe: u8, index: u8, bit: u8)
         ensures { self.new ≡ with_bit self.old subframe index bit }
     {
-        let word = ((self.partial as u16 * 2 + bit as u16) % 8) as u8;
+        let word = shift::<3>(self.partial as u16, bit) as u8;
         if index == 2 {
             self.words[(subframe.saturating_sub(1) % 4) as usize] = Some(word);
             self.partial = 0;
@@ -28,63 +29,53 @@ impl Service {
         }
     }
 
-    // How many of the words received are this one.
-    fn shown(&self, word: u8) -> u8
-        ensures { result ≡ shown self.now.words word }
-    {
-        is(self.words[0], word)
-            + is(self.words[1], word)
-            + is(self.words[2], word)
-            + is(self.words[3], word)
-    }
-
     // Whether at least three of the four words are this one.
+    #[tactic(auto, using(crate::proofs::Counted::majority_counted))]
     fn has_majority(&self, word: u8) -> bool
         ensures { result ≡ has_majority self.now.words word }
     {
-        self.shown(word) >= 3
+        self.words
+            .iter()
+            .filter(|received| **received == Some(word))
+            .count()
+            >= 3
     }
 
     // Whether all four words were received.
-    fn complete(&self) -> bool
+    fn is_complete(&self) -> bool
         ensures { result ≡ are_complete self.now.words }
     {
-        self.words[0].is_some()
-            && self.words[1].is_some()
-            && self.words[2].is_some()
-            && self.words[3].is_some()
+        self.words.iter().all(|received| received.is_some())
     }
 
-    // The justification that at least three of the four words tell.
+    // The justification whose service word at least three of the four words are.
+    fn majority(&self) -> Option<Justification>
+        ensures { result ≡ majority self.now.words }
+    {
+        [
+            Justification::Deleted,
+            Justification::Added,
+            Justification::Unchanged,
+        ]
+        .into_iter()
+        .find(|justification| self.has_majority(justification.service_word()))
+    }
+
+    // The justification that the frame is taken to have, by the words received so far.
     pub(crate) fn taken(&self) -> Justification
         ensures { result ≡ taken self.now.words }
     {
-        if self.has_majority(0b001) {
-            Justification::Deleted
-        } else if self.has_majority(0b100) {
-            Justification::Added
-        } else {
-            Justification::Unchanged
-        }
+        self.majority().unwrap_or(Justification::Unchanged)
     }
 
-    // Whether all four words were received, and no service word has a majority of them.
-    pub(crate) fn disputed(&self) -> bool
-        ensures { result ≡ is_disputed self.now.words }
+    // What the words tell: nothing where all four were received, and no service word has a majority of them.
+    pub(crate) fn told(&self) -> Option<Justification>
+        ensures { result ≡ told self.now.words }
     {
-        self.complete()
-            && !self.has_majority(0b001)
-            && !self.has_majority(0b010)
-            && !self.has_majority(0b100)
-    }
-}
-
-// 1 where a word was received and is this one.
-fn is(received: Option<u8>, word: u8) -> u8
-    ensures { result ≡ is_word received word }
-{
-    match received {
-        Some(w) => { if w == word { 1 } else { 0 } }
-        None => 0,
+        if self.is_complete() {
+            self.majority()
+        } else {
+            Some(self.taken())
+        }
     }
 }

@@ -1,7 +1,7 @@
 // What reception keeps.
 
 /// A hunt for the frame alignment pattern.
-#[derive(Clone, Copy)]
+#[derive(Clone, Copy, Debug, PartialEq, Eq)]
 pub struct Hunt {
     /// the last fourteen bits of each of the sixteen phases, 0 for those not received
     pub registers: [u16; 16],
@@ -10,7 +10,7 @@ pub struct Hunt {
 }
 
 /// The wait for the two bits that name the subframe.
-#[derive(Clone, Copy)]
+#[derive(Clone, Copy, Debug, PartialEq, Eq)]
 pub struct Wait {
     /// how many bits came since the pattern, below 32
     pub since: u8,
@@ -19,7 +19,7 @@ pub struct Wait {
 }
 
 /// The service words of a frame.
-#[derive(Clone, Copy)]
+#[derive(Clone, Copy, Debug, PartialEq, Eq)]
 pub struct Service {
     /// the bits so far of the word that is being received
     pub partial: u8,
@@ -28,7 +28,7 @@ pub struct Service {
 }
 
 /// The check of a frame.
-#[derive(Clone, Copy)]
+#[derive(Clone, Copy, Debug, PartialEq, Eq)]
 pub struct Checking {
     /// the check bits so far
     pub received: u16,
@@ -41,7 +41,7 @@ pub struct Checking {
 }
 
 /// How far a frame was received.
-#[derive(Clone, Copy)]
+#[derive(Clone, Copy, Debug, PartialEq, Eq)]
 pub struct Progress {
     /// of the next bit
     pub place: u16,
@@ -54,7 +54,7 @@ pub struct Progress {
 }
 
 /// How far reception is. Hunting and pending are blocked.
-#[derive(Clone, Copy)]
+#[derive(Clone, Copy, Debug, PartialEq, Eq)]
 pub enum Reception {
     Hunting(Hunt),
     /// a pattern was found, and its subframe is not known yet
@@ -66,7 +66,7 @@ pub enum Reception {
 }
 
 /// The receiving end of a bearer.
-#[derive(Clone, Copy)]
+#[derive(Clone, Copy, Debug, PartialEq, Eq)]
 pub struct Receiver {
     pub state: Reception,
     /// the far alarm bit last received
