@@ -73,21 +73,27 @@ same_justification Added Deleted = false
 same_justification Added Unchanged = false
 same_justification Added Added = true
 
+-- the words of a frame tell justification j
+abbrev pub tells : Option Justification → Justification → Bool
+tells None j = false
+tells (Some i) j = same_justification i j
+
 -- the slots from k on are shown in order, with no bit set, and nothing else but the far alarm and justification j
-unfoldable pub is_clean : Justification → ℕ → List Conclusion → Bool
+unfoldable pub is_clean : Justification → ℕ → List (Option Conclusion) → Bool
 is_clean j k [] = eqb k 240
-is_clean j k (shows.Nothing ∷ cs) = is_clean j k cs
-is_clean j k (shows.Word i w ∷ cs) = (eqb i k && eqb w 0) && is_clean j (suc k) cs
-is_clean j k (shows.Fault f ∷ cs) = is_alarm f && is_clean j k cs
-is_clean j k (shows.Justification i d ∷ cs) = (same_justification i j && not d) && is_clean j k cs
+is_clean j k (None ∷ cs) = is_clean j k cs
+is_clean j k (Some (shows.Word i w) ∷ cs) = (eqb i k && eqb w 0) && is_clean j (suc k) cs
+is_clean j k (Some (shows.Fault f) ∷ cs) = is_alarm f && is_clean j k cs
+is_clean j k (Some (shows.Justification told) ∷ cs) = tells told j && is_clean j k cs
 
 -- what padding of a clean frame shows
-abbrev is_fair : Justification → Heard → Bool
-is_fair j heard.Nothing = true
-is_fair j heard.Alarm = true
-is_fair j (heard.Pattern r) = r
-is_fair j heard.WrongCheck = false
-is_fair j (heard.Words i d) = same_justification i j && not d
+abbrev is_fair : Justification → Option Heard → Bool
+is_fair j None = true
+is_fair j (Some heard.Alarm) = true
+is_fair j (Some heard.RightPattern) = true
+is_fair j (Some heard.WrongPattern) = false
+is_fair j (Some heard.WrongCheck) = false
+is_fair j (Some (heard.Words told)) = tells told j
 
 -- a bit of a clean frame, where slot k comes next
 abbrev fair_bit : Mode → Justification → ℕ → Role → Progress → ℕ → Bool
@@ -119,34 +125,34 @@ module _ (mode : Mode) (j : Justification) where
   fair_at on p k (Proving q) d e = e
   fair_at on p k (Aligned q n) d e = (and_parts _ _ e).0
 
-  alarm_clean : (a t : Bool) (k : ℕ) (cs : List Conclusion) → is_clean j k cs ≡ true → is_clean j k (alarm_fault a t ∷ cs) ≡ true
+  alarm_clean : (a t : Bool) (k : ℕ) (cs : List (Option Conclusion)) → is_clean j k cs ≡ true → is_clean j k (alarm_fault a t ∷ cs) ≡ true
   unfolding is_clean
   alarm_clean true true k cs h = h
   alarm_clean true false k cs h = h
   alarm_clean false true k cs h = h
   alarm_clean false false k cs h = h
 
-  heard_clean : (g : Heard) (n : ℕ) (x : Receiver) (d k : ℕ) (cs : List Conclusion) → is_fair j g ≡ true → is_clean j k cs ≡ true → is_clean j k (aligned_fault g n x d ∷ cs) ≡ true
+  heard_clean : (g : Option Heard) (n : ℕ) (x : Receiver) (d k : ℕ) (cs : List (Option Conclusion)) → is_fair j g ≡ true → is_clean j k cs ≡ true → is_clean j k (aligned_fault g n x d ∷ cs) ≡ true
   unfolding is_clean
-  heard_clean heard.Nothing n x d k cs e h = h
-  heard_clean heard.Alarm n x d k cs e h = alarm_clean x.alarm (eqb d 1) k cs h
-  heard_clean (heard.Pattern true) n x d k cs e h = h
-  heard_clean (heard.Pattern false) n x d k cs e h = absurd (false≢true e)
-  heard_clean heard.WrongCheck n x d k cs e h = absurd (false≢true e)
-  heard_clean (heard.Words i u) n x d k cs e h = and_from _ _ e h
+  heard_clean None n x d k cs e h = h
+  heard_clean (Some heard.Alarm) n x d k cs e h = alarm_clean x.alarm (eqb d 1) k cs h
+  heard_clean (Some heard.RightPattern) n x d k cs e h = h
+  heard_clean (Some heard.WrongPattern) n x d k cs e h = absurd (false≢true e)
+  heard_clean (Some heard.WrongCheck) n x d k cs e h = absurd (false≢true e)
+  heard_clean (Some (heard.Words told)) n x d k cs e h = and_from _ _ e h
 
-  word_clean : (t : Bool) (s w k : ℕ) (cs : List Conclusion) → cond t (eqb s k && eqb w 0) true ≡ true → is_clean j (cond t (suc k) k) cs ≡ true → is_clean j k (word_told s (cond t (Some w) None) ∷ cs) ≡ true
+  word_clean : (t : Bool) (s w k : ℕ) (cs : List (Option Conclusion)) → cond t (eqb s k && eqb w 0) true ≡ true → is_clean j (cond t (suc k) k) cs ≡ true → is_clean j k (word_told s (cond t (Some w) None) ∷ cs) ≡ true
   unfolding is_clean
   word_clean true s w k cs e h = and_from _ _ e h
   word_clean false s w k cs e h = h
 
-  role_clean : (r : Role) (q : Progress) (n : ℕ) (x : Receiver) (d k : ℕ) (cs : List Conclusion) → fair_bit mode j k r q d ≡ true → is_clean j (slot_after k r) cs ≡ true → is_clean j k (aligned_shows mode r q n x d ∷ cs) ≡ true
+  role_clean : (r : Role) (q : Progress) (n : ℕ) (x : Receiver) (d k : ℕ) (cs : List (Option Conclusion)) → fair_bit mode j k r q d ≡ true → is_clean j (slot_after k r) cs ≡ true → is_clean j k (aligned_shows mode r q n x d ∷ cs) ≡ true
   unfolding is_clean
   role_clean (Padding s i) q n x d k cs e h = heard_clean (heard_in q s (padding mode s i) d) n x d k cs e h
   role_clean (Payload s i) q n x d k cs e h = word_clean (eqb i 9) s (shift 10 q.word d) k cs e h
   role_clean role.Added q n x d k cs e h = h
 
-  state_clean : (on : Bool) (p k : ℕ) (s : Reception) (x : Receiver) (d : ℕ) (cs : List Conclusion) → is_fair_at mode j on p k s d ≡ true → is_clean j (slot_after k (place_role p)) cs ≡ true → is_clean j k (shows_in mode s x (d % 2) ∷ cs) ≡ true
+  state_clean : (on : Bool) (p k : ℕ) (s : Reception) (x : Receiver) (d : ℕ) (cs : List (Option Conclusion)) → is_fair_at mode j on p k s d ≡ true → is_clean j (slot_after k (place_role p)) cs ≡ true → is_clean j k (shows_in mode s x (d % 2) ∷ cs) ≡ true
   state_clean on p k (Hunting h) x d cs e c = absurd (false≢true e)
   state_clean on p k (Pending w) x d cs e c = absurd (false≢true e)
   state_clean on p k (Proving q) x d cs e c = absurd (false≢true e)

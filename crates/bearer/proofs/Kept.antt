@@ -127,7 +127,7 @@ module _ (mode : Mode) (c d : Content) (v : Valid c) (u : Valid d) (follows : Fo
       ap₂ (receiver_after mode) is_laden frame_bits
       ∙ frame_after mode c d v u (remainder (frame mode (bare c))) j follows (frame_bit mode (bare c)) (frame_lt mode (bare c)) (frame_length j - 1) 0 bare_receiver whole stays_over_lem
 
-  abbrev bare_shown : List Conclusion
+  abbrev bare_shown : List (Option Conclusion)
   bare_shown = shown mode bare_receiver bare_bits
 
   frame_shows : shown mode x (frame mode c) ≡ map (laden_word c) bare_shown

@@ -13,7 +13,7 @@ use Rattle.frame.specs.Frames.{sent_bit}
 use Rattle.frame.specs.Paddings.{padding}
 use Rattle.frame.specs.Places.{role}
 use Rattle.reception.specs.declared.receiver.Conclusion.{Conclusion}
-use Rattle.reception.specs.declared.receiver.Conclusion.TheVariants.{Nothing, Word, Fault, Justification}
+use Rattle.reception.specs.declared.receiver.Conclusion.TheVariants.{Word, Fault, Justification}
 use Rattle.reception.specs.declared.state.Progress.{Progress}
 use Rattle.reception.specs.declared.state.Receiver.{Receiver}
 use Rattle.reception.specs.declared.state.Reception.{Reception}
@@ -91,8 +91,8 @@ unfoldable pub laden : Mode → Content → Receiver → Receiver
 laden mode c x = with_state (laden_state mode c x.state) x
 
 -- what is concluded of the frame, where this is concluded of the bare one
-unfoldable pub laden_word : Content → Conclusion → Conclusion
-laden_word c Nothing = Nothing
-laden_word c (Word k w) = Word k (bit_xor (get_or c.words k 0) w)
-laden_word c (Fault f) = Fault f
-laden_word c (Justification j d) = Justification j d
+unfoldable pub laden_word : Content → Option Conclusion → Option Conclusion
+laden_word c None = None
+laden_word c (Some (Word k w)) = Some (Word k (bit_xor (get_or c.words k 0) w))
+laden_word c (Some (Fault f)) = Some (Fault f)
+laden_word c (Some (Justification told)) = Some (Justification told)

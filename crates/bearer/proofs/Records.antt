@@ -5,7 +5,7 @@ use Rattle.std.specs.Option.{option_to_list}
 use Rattle.std.proofs.lemmas.Bool.{false≢true}
 use Rattle.reception.specs.declared.receiver.Conclusion.{Conclusion}
 use Rattle.reception.specs.declared.receiver.Conclusion.TheVariants as shows
-use Rattle.reception.specs.declared.receiver.FaultKind.TheVariants.{EnvelopeAlignment, Words}
+use Rattle.reception.specs.declared.receiver.FaultKind.TheVariants.{EnvelopeAlignment}
 use Rattle.reception.specs.declared.state.Receiver.{Receiver}
 use Rattle.reception.specs.Steps.{conclusion, stepped}
 use Rattle.station.specs.declared.event.Delivery.{Delivery}
@@ -25,22 +25,22 @@ module _ (owner : Owners) where
   records_at (Some c) rs w = received_on rs c (alignment_in w)
 
   -- the channel records, once this was shown
-  unfoldable pub records_by : List ChannelRecord → Conclusion → List ChannelRecord
-  records_by rs shows.Nothing = rs
-  records_by rs (shows.Word k w) = records_at (owner k) rs w
-  records_by rs (shows.Fault f) = records_past f rs
-  records_by rs (shows.Justification j d) = rs
+  unfoldable pub records_by : List ChannelRecord → Option Conclusion → List ChannelRecord
+  records_by rs None = rs
+  records_by rs (Some (shows.Word k w)) = records_at (owner k) rs w
+  records_by rs (Some (shows.Fault f)) = records_past f rs
+  records_by rs (Some (shows.Justification told)) = rs
 
   abbrev pub delivered_at : Option ℕ → ℕ → Option Delivery
   delivered_at None w = None
   delivered_at (Some c) w = Some (record { channel = c; envelope = envelope_in w })
 
   -- what is given where this is shown
-  unfoldable pub delivered : Conclusion → Option Delivery
-  delivered shows.Nothing = None
-  delivered (shows.Word k w) = delivered_at (owner k) w
-  delivered (shows.Fault f) = None
-  delivered (shows.Justification j d) = None
+  unfoldable pub delivered : Option Conclusion → Option Delivery
+  delivered None = None
+  delivered (Some (shows.Word k w)) = delivered_at (owner k) w
+  delivered (Some (shows.Fault f)) = None
+  delivered (Some (shows.Justification told)) = None
 
   -- the line as a whole
   unfoldable pub line_with : Line → List ChannelRecord → Receiver → Line
@@ -50,12 +50,12 @@ module _ (owner : Owners) where
   slot_records None l w = refl
   slot_records (Some c) l w = refl
 
-  concluded_records : (l : Line) (c : Conclusion) → concluded_line owner l c ≡ with_records (records_by l.records c) l
+  concluded_records : (l : Line) (c : Option Conclusion) → concluded_line owner l c ≡ with_records (records_by l.records c) l
   unfolding records_by
-  concluded_records l shows.Nothing = refl
-  concluded_records l (shows.Word k w) = slot_records (owner k) l w
-  concluded_records l (shows.Fault f) = refl
-  concluded_records l (shows.Justification j d) = refl
+  concluded_records l None = refl
+  concluded_records l (Some (shows.Word k w)) = slot_records (owner k) l w
+  concluded_records l (Some (shows.Fault f)) = refl
+  concluded_records l (Some (shows.Justification told)) = refl
 
   step_line : (l : Line) (b : ℕ) → stepped_line owner l b ≡ line_with l (records_by l.records (conclusion l.mode l.receiver b)) (stepped l.mode l.receiver b)
   unfolding stepped_line line_with
@@ -65,22 +65,23 @@ module _ (owner : Owners) where
   slot_given None l w = refl
   slot_given (Some c) l w = refl
 
-  concluded_given : (l : Line) (c : Conclusion) → (concluded_event owner l c).given ≡ delivered c
+  concluded_given : (l : Line) (c : Option Conclusion) → (concluded_event owner l c).given ≡ delivered c
   unfolding delivered
-  concluded_given l shows.Nothing = refl
-  concluded_given l (shows.Word k w) = slot_given (owner k) l w
-  concluded_given l (shows.Fault f) = refl
-  concluded_given l (shows.Justification j d) = refl
+  concluded_given l None = refl
+  concluded_given l (Some (shows.Word k w)) = slot_given (owner k) l w
+  concluded_given l (Some (shows.Fault f)) = refl
+  concluded_given l (Some (shows.Justification None)) = refl
+  concluded_given l (Some (shows.Justification (Some j))) = refl
 
   step_given : (l : Line) (b : ℕ) → (event owner l b).given ≡ delivered (conclusion l.mode l.receiver b)
   unfolding event
   step_given l b = concluded_given (heard_line owner l b) (conclusion l.mode l.receiver b)
 
-  unfoldable pub records_over : List ChannelRecord → List Conclusion → List ChannelRecord
+  unfoldable pub records_over : List ChannelRecord → List (Option Conclusion) → List ChannelRecord
   records_over rs [] = rs
   records_over rs (c ∷ cs) = records_over (records_by rs c) cs
 
-  unfoldable pub deliveries : List Conclusion → List Delivery
+  unfoldable pub deliveries : List (Option Conclusion) → List Delivery
   deliveries [] = []
   deliveries (c ∷ cs) = option_to_list (delivered c) ++ deliveries cs
 
@@ -103,13 +104,14 @@ module _ (owner : Owners) where
   QuietAt None rs w = Unit {0}
   QuietAt (Some c) rs w = was_repeated rs c (alignment_in w) ≡ false
 
-  abbrev pub QuietStep : List ChannelRecord → Conclusion → Type 0
-  QuietStep rs shows.Nothing = Unit {0}
-  QuietStep rs (shows.Word k w) = QuietAt (owner k) rs w
-  QuietStep rs (shows.Fault f) = IsAlarm f
-  QuietStep rs (shows.Justification j d) = d ≡ false
+  abbrev pub QuietStep : List ChannelRecord → Option Conclusion → Type 0
+  QuietStep rs None = Unit {0}
+  QuietStep rs (Some (shows.Word k w)) = QuietAt (owner k) rs w
+  QuietStep rs (Some (shows.Fault f)) = IsAlarm f
+  QuietStep rs (Some (shows.Justification None)) = ⊥
+  QuietStep rs (Some (shows.Justification (Some j))) = Unit {0}
 
-  unfoldable pub Quiet : List ChannelRecord → List Conclusion → Type 0
+  unfoldable pub Quiet : List ChannelRecord → List (Option Conclusion) → Type 0
   Quiet rs [] = Unit {0}
   Quiet rs (c ∷ cs) = QuietStep rs c × Quiet (records_by rs c) cs
 
@@ -127,11 +129,12 @@ module _ (owner : Owners) where
   slot_quiet None l w q = refl
   slot_quiet (Some c) l w q = none_if (was_repeated l.records c (alignment_in w)) (fault_at l EnvelopeAlignment c) q
 
-  concluded_quiet : (l : Line) (c : Conclusion) (fs : List Fault) → QuietStep l.records c → Alarms fs → Alarms (option_to_list (concluded_event owner l c).fault ++ fs)
-  concluded_quiet l shows.Nothing fs q h = h
-  concluded_quiet l (shows.Word k w) fs q h = with_none (slot_event (owner k) l w).fault fs (slot_quiet (owner k) l w q) h
-  concluded_quiet l (shows.Fault f) fs q h = (q, h)
-  concluded_quiet l (shows.Justification j d) fs q h = with_none (fault_if d (fault_at l Words 0)) fs (none_if d (fault_at l Words 0) q) h
+  concluded_quiet : (l : Line) (c : Option Conclusion) (fs : List Fault) → QuietStep l.records c → Alarms fs → Alarms (option_to_list (concluded_event owner l c).fault ++ fs)
+  concluded_quiet l None fs q h = h
+  concluded_quiet l (Some (shows.Word k w)) fs q h = with_none (slot_event (owner k) l w).fault fs (slot_quiet (owner k) l w q) h
+  concluded_quiet l (Some (shows.Fault f)) fs q h = (q, h)
+  concluded_quiet l (Some (shows.Justification None)) fs q h = absurd q
+  concluded_quiet l (Some (shows.Justification (Some j))) fs q h = h
 
   pub faults_over : (bs : List ℕ) (l : Line) → Quiet l.records (shown l.mode l.receiver bs) → Alarms (faults_in owner l bs)
   unfolding events event parts Quiet shown line_with

@@ -36,7 +36,7 @@ unfoldable pub receiver_after : Mode → Receiver → List ℕ → Receiver
 receiver_after mode x [] = x
 receiver_after mode x (b ∷ bs) = receiver_after mode (stepped mode x b) bs
 
-unfoldable pub shown : Mode → Receiver → List ℕ → List Conclusion
+unfoldable pub shown : Mode → Receiver → List ℕ → List (Option Conclusion)
 shown mode x [] = []
 shown mode x (b ∷ bs) = conclusion mode x b ∷ shown mode (stepped mode x b) bs
 

@@ -64,13 +64,13 @@ fresh_bit : (a : Bool) (o : Option Bool) → Alternates a o → repeated o a ≡
 fresh_bit a None h = refl
 fresh_bit a (Some last) h = ap (λ x. same x a) h ∙ not_same a
 
-clean_le : (j : Justification) (cs : List Conclusion) (k : ℕ) → is_clean j k cs ≡ true → k ≤ 240
+clean_le : (j : Justification) (cs : List (Option Conclusion)) (k : ℕ) → is_clean j k cs ≡ true → k ≤ 240
 unfolding is_clean
 clean_le j [] k e = omega (arith, eqb-true k 240 e)
-clean_le j (shows.Nothing ∷ cs) k e = clean_le j cs k e
-clean_le j (shows.Word i w ∷ cs) k e = omega (arith, clean_le j cs (suc k) (and_parts _ _ e).1)
-clean_le j (shows.Fault f ∷ cs) k e = clean_le j cs k (and_parts _ _ e).1
-clean_le j (shows.Justification i d ∷ cs) k e = clean_le j cs k (and_parts _ _ e).1
+clean_le j (None ∷ cs) k e = clean_le j cs k e
+clean_le j (Some (shows.Word i w) ∷ cs) k e = omega (arith, clean_le j cs (suc k) (and_parts _ _ e).1)
+clean_le j (Some (shows.Fault f) ∷ cs) k e = clean_le j cs k (and_parts _ _ e).1
+clean_le j (Some (shows.Justification told) ∷ cs) k e = clean_le j cs k (and_parts _ _ e).1
 
 pub length_records : (owner : Owners) (k c : ℕ) (rs : List ChannelRecord) → length (records_from owner k c rs) ≡ length rs
 unfolding records_from
@@ -94,10 +94,6 @@ alarm_past EnvelopeAlignment rs e = refl
 alarm_past Words rs e = refl
 alarm_past AlarmBegun rs e = refl
 alarm_past AlarmEnded rs e = refl
-
-not_true : (t : Bool) → not t ≡ true → t ≡ false
-not_true true e = absurd (false≢true e)
-not_true false e = refl
 
 abbrev any_line : Line
 any_line = fresh_line Synchronous 0 placed_state
@@ -186,20 +182,20 @@ module _ (m : Meaning) (owner : Owners) (known : Channels owner) (f : Accounts) 
   word_at_lem k h = get_or-map-range_with_len (word_at m owner f rs) 0 240 k k 0 h (omega arith)
 
   -- all that a clean frame shows from slot k on
-  pub record Slots (c : Content) (k : ℕ) (rr : List ChannelRecord) (cs : List Conclusion) : Type 0 where
+  pub record Slots (c : Content) (k : ℕ) (rr : List ChannelRecord) (cs : List (Option Conclusion)) : Type 0 where
     pub synced : Synced 240 (records_over owner rr (map (laden_word c) cs))
     pub quiet : Quiet owner rr (map (laden_word c) cs)
     pub given : deliveries owner (map (laden_word c) cs) ≡ gathered (sent_at m owner f) (range_with_len k (240 - k))
 
   module _ (c : Content) (is : c.words ≡ words m owner f rs) (j : Justification) where
-    word_shown : (i w k : ℕ) → eqb i k ≡ true → eqb w 0 ≡ true → k < 240 → laden_word c (shows.Word i w) ≡ shows.Word k (word_of k)
+    word_shown : (i w k : ℕ) → eqb i k ≡ true → eqb w 0 ≡ true → k < 240 → laden_word c (Some (shows.Word i w)) ≡ Some (shows.Word k (word_of k))
     unfolding laden_word
     word_shown i w k a b h =
-        ap₂ (λ n v. shows.Word n (bit_xor (get_or c.words n 0) v)) (eqb-true i k a) (eqb-true w 0 b)
-        ∙ ap (shows.Word k) (xor_zero_r (get_or c.words k 0) ∙ ap (λ ws. get_or ws k 0) is ∙ word_at_lem k h)
+        ap₂ (λ n v. Some (shows.Word n (bit_xor (get_or c.words n 0) v))) (eqb-true i k a) (eqb-true w 0 b)
+        ∙ ap (λ v. Some (shows.Word k v)) (xor_zero_r (get_or c.words k 0) ∙ ap (λ ws. get_or ws k 0) is ∙ word_at_lem k h)
 
     -- a slot, and then the rest
-    word_slots : (shown : Conclusion) (cs : List Conclusion) (k : ℕ) (rr : List ChannelRecord) → shown ≡ shows.Word k (word_of k) → Slot k (owner k) (word_of k) rr → Slots c (k + 1) (records_at owner (owner k) rr (word_of k)) cs → suc (240 - (k + 1)) ≡ 240 - k
+    word_slots : (shown : Option Conclusion) (cs : List (Option Conclusion)) (k : ℕ) (rr : List ChannelRecord) → shown ≡ Some (shows.Word k (word_of k)) → Slot k (owner k) (word_of k) rr → Slots c (k + 1) (records_at owner (owner k) rr (word_of k)) cs → suc (240 - (k + 1)) ≡ 240 - k
         → record {
           synced : Synced 240 (records_over owner (records_by owner rr shown) (map (laden_word c) cs));
           quiet : QuietStep owner rr shown × Quiet owner (records_by owner rr shown) (map (laden_word c) cs);
@@ -212,16 +208,16 @@ module _ (m : Meaning) (owner : Owners) (known : Channels owner) (f : Accounts) 
       given = ap (λ x. option_to_list (delivered owner x) ++ deliveries owner (map (laden_word c) cs)) e ∙ ap₂ (λ o ds. option_to_list o ++ ds) one.given rest.given ∙ ap (λ n. gathered (sent_at m owner f) (range_with_len k n)) more;
     }
 
-    pub slots : (cs : List Conclusion) (k : ℕ) (rr : List ChannelRecord) → is_clean j k cs ≡ true → Synced k rr → Slots c k rr cs
+    pub slots : (cs : List (Option Conclusion)) (k : ℕ) (rr : List ChannelRecord) → is_clean j k cs ≡ true → Synced k rr → Slots c k rr cs
     unfolding is_clean records_over records_by deliveries delivered Quiet gathered laden_word
     slots [] k rr e s =
         let end : k ≡ 240 = eqb-true k 240 e in
         let none : 0 ≡ 240 - k = omega arith in
         record { synced = subst (λ n. Synced n rr) end s; quiet = tt; given = ap (λ n. gathered (sent_at m owner f) (range_with_len k n)) none }
-    slots (shows.Nothing ∷ cs) k rr e s =
+    slots (None ∷ cs) k rr e s =
         let rest = slots cs k rr e s in
         record { synced = rest.synced; quiet = (tt, rest.quiet); given = rest.given }
-    slots (shows.Word i w ∷ cs) k rr e s =
+    slots (Some (shows.Word i w) ∷ cs) k rr e s =
         let clean = and_parts _ _ e in
         let here = and_parts _ _ clean.0 in
         let next : is_clean j (k + 1) cs ≡ true = ap (λ n. is_clean j n cs) (add-one k) ∙ clean.1 in
@@ -229,14 +225,14 @@ module _ (m : Meaning) (owner : Owners) (known : Channels owner) (f : Accounts) 
         let one = slot k rr s in
         let rest = slots cs (k + 1) (records_at owner (owner k) rr (word_of k)) next one.synced in
         let more : suc (240 - (k + 1)) ≡ 240 - k = omega arith in
-        let all = word_slots (shows.Word i (bit_xor (get_or c.words i 0) w)) cs k rr (word_shown i w k here.0 here.1 below) one rest more in
+        let all = word_slots (Some (shows.Word i (bit_xor (get_or c.words i 0) w))) cs k rr (word_shown i w k here.0 here.1 below) one rest more in
         record { synced = all.synced; quiet = all.quiet; given = all.given }
-    slots (shows.Fault g ∷ cs) k rr e s =
+    slots (Some (shows.Fault g) ∷ cs) k rr e s =
         let clean = and_parts _ _ e in
         let same = alarm_past g rr clean.0 in
         let rest = slots cs k (records_past g rr) clean.1 (subst (Synced k) same s) in
         record { synced = rest.synced; quiet = (alarm_is g clean.0, rest.quiet); given = rest.given }
-    slots (shows.Justification i d ∷ cs) k rr e s =
-        let clean = and_parts _ _ e in
-        let rest = slots cs k rr clean.1 s in
-        record { synced = rest.synced; quiet = (not_true d (and_parts _ _ clean.0).1, rest.quiet); given = rest.given }
+    slots (Some (shows.Justification None) ∷ cs) k rr e s = absurd (false≢true (and_parts false (is_clean j k cs) e).0)
+    slots (Some (shows.Justification (Some i)) ∷ cs) k rr e s =
+        let rest = slots cs k rr (and_parts _ _ e).1 s in
+        record { synced = rest.synced; quiet = (tt, rest.quiet); given = rest.given }

@@ -18,7 +18,7 @@ use Rattle.frame.specs.Paddings.{padding}
 use Rattle.frame.specs.Places.{role}
 use Rattle.reception.specs.declared.progress.Heard.{Heard}
 use Rattle.reception.specs.declared.progress.Heard.TheVariants as heard
-use Rattle.reception.specs.declared.receiver.Conclusion.TheVariants.{Nothing, Word, Fault}
+use Rattle.reception.specs.declared.receiver.Conclusion.TheVariants.{Word, Fault}
 use Rattle.reception.specs.declared.receiver.FaultKind.TheVariants.{Lost}
 use Rattle.reception.specs.declared.state.Progress.{Progress}
 use Rattle.reception.specs.declared.state.Receiver.{Receiver}
@@ -213,7 +213,7 @@ module _ (mode : Mode) (c : Content) (v : Valid c) where
     heard_square : (s : ℕ) (h : Held) → InPadding q.place h → heard_in (laden_progress mode c q) s h (bit_xor (own_padding c h) b) ≡ heard_in q s h b
     heard_square s Alarm pad = refl
     heard_square s One pad = refl
-    heard_square s (Check k) pad = ap (λ t. cond t heard.WrongCheck heard.Nothing) (wrong_square k pad (eqb k 15) refl)
+    heard_square s (Check k) pad = ap (λ t. cond t (Some heard.WrongCheck) None) (wrong_square k pad (eqb k 15) refl)
     heard_square s (Pattern j) pad = refl
     heard_square s (Number j) pad = ap (heard_in q s (Number j)) (xor_zero_l b)
     heard_square s (Service j) pad = ap (heard_in q s (Service j)) (xor_zero_l b)
@@ -221,7 +221,7 @@ module _ (mode : Mode) (c : Content) (v : Valid c) where
 
     told_square : (k j : ℕ) → InPayload q.place k j → (t : Bool) → eqb j 9 ≡ t → word_told k (cond t (Some (shift 10 (bit_xor (word_front c q.place) q.word) (bit_xor (sent_bit 10 (get_or c.words k 0) j) b))) None) ≡ laden_word c (word_told k (cond t (Some (shift 10 q.word b)) None))
     unfolding laden_word
-    told_square k j h true e = ap (Word k) (word_whole q.place k j q.word b small h e)
+    told_square k j h true e = ap (λ w. Some (Word k w)) (word_whole q.place k j q.word b small h e)
     told_square k j h false e = refl
 
 -- a verdict leaves the same beside each other
@@ -230,16 +230,16 @@ module _ (mode : Mode) (c : Content) where
   either_laden true x y = refl
   either_laden false x y = refl
 
-  aligned_laden : (g : Heard) (q : Progress) (n : ℕ) (s : Reception) (x : Receiver) (b : ℕ) → aligned_by g (laden_progress mode c q) n (with_state s x) b ≡ laden mode c (aligned_by g q n x b)
+  aligned_laden : (g : Option Heard) (q : Progress) (n : ℕ) (s : Reception) (x : Receiver) (b : ℕ) → aligned_by g (laden_progress mode c q) n (with_state s x) b ≡ laden mode c (aligned_by g q n x b)
   unfolding laden
-  aligned_laden heard.Nothing q n s x b = refl
-  aligned_laden heard.Alarm q n s x b = refl
-  aligned_laden (heard.Pattern true) q n s x b = refl
-  aligned_laden (heard.Pattern false) q n s x b = either_laden (ltb n 2) (with_state (Aligned q (n + 1)) x) (lost x)
-  aligned_laden heard.WrongCheck q n s x b = refl
-  aligned_laden (heard.Words j d) q n s x b = refl
+  aligned_laden None q n s x b = refl
+  aligned_laden (Some heard.Alarm) q n s x b = refl
+  aligned_laden (Some heard.RightPattern) q n s x b = refl
+  aligned_laden (Some heard.WrongPattern) q n s x b = either_laden (ltb n 2) (with_state (Aligned q (n + 1)) x) (lost x)
+  aligned_laden (Some heard.WrongCheck) q n s x b = refl
+  aligned_laden (Some (heard.Words told)) q n s x b = refl
 
-  lost_laden : (t : Bool) → cond t Nothing (Fault Lost) ≡ laden_word c (cond t Nothing (Fault Lost))
+  lost_laden : (t : Bool) → cond t None (Some (Fault Lost)) ≡ laden_word c (cond t None (Some (Fault Lost)))
   unfolding laden_word
   lost_laden true = refl
   lost_laden false = refl
@@ -251,23 +251,23 @@ module _ (mode : Mode) (c : Content) where
   alarm_laden false true = refl
   alarm_laden false false = refl
 
-  fault_laden : (g : Heard) (n : ℕ) (s : Reception) (x : Receiver) (b : ℕ) → aligned_fault g n (with_state s x) b ≡ laden_word c (aligned_fault g n x b)
+  fault_laden : (g : Option Heard) (n : ℕ) (s : Reception) (x : Receiver) (b : ℕ) → aligned_fault g n (with_state s x) b ≡ laden_word c (aligned_fault g n x b)
   unfolding laden_word
-  fault_laden heard.Nothing n s x b = refl
-  fault_laden heard.Alarm n s x b = alarm_laden x.alarm (eqb b 1)
-  fault_laden (heard.Pattern true) n s x b = refl
-  fault_laden (heard.Pattern false) n s x b = lost_laden (ltb n 2)
-  fault_laden heard.WrongCheck n s x b = refl
-  fault_laden (heard.Words j d) n s x b = refl
+  fault_laden None n s x b = refl
+  fault_laden (Some heard.Alarm) n s x b = alarm_laden x.alarm (eqb b 1)
+  fault_laden (Some heard.RightPattern) n s x b = refl
+  fault_laden (Some heard.WrongPattern) n s x b = lost_laden (ltb n 2)
+  fault_laden (Some heard.WrongCheck) n s x b = refl
+  fault_laden (Some (heard.Words told)) n s x b = refl
 
   -- only the far alarm bit itself is looked at
   module _ (q : Progress) (n : ℕ) (b : ℕ) where
-    by_check : {A : Type 0} (f : Heard → ℕ → A) (b' : ℕ) → f heard.WrongCheck b' ≡ f heard.WrongCheck b → f heard.Nothing b' ≡ f heard.Nothing b → (t : Bool) → f (cond t heard.WrongCheck heard.Nothing) b' ≡ f (cond t heard.WrongCheck heard.Nothing) b
+    by_check : {A : Type 0} (f : Option Heard → ℕ → A) (b' : ℕ) → f (Some heard.WrongCheck) b' ≡ f (Some heard.WrongCheck) b → f None b' ≡ f None b → (t : Bool) → f (cond t (Some heard.WrongCheck) None) b' ≡ f (cond t (Some heard.WrongCheck) None) b
     by_check f b' w z true = w
     by_check f b' w z false = z
 
-    same_bit : {A : Type 0} (f : Heard → ℕ → A) → ((b' : ℕ) → f heard.WrongCheck b' ≡ f heard.WrongCheck b) → ((b' : ℕ) → f heard.Nothing b' ≡ f heard.Nothing b) → (s : ℕ) (h : Held) → f (heard_in q s h b) (bit_xor (own_padding c h) b) ≡ f (heard_in q s h b) b
-    same_bit f w z s Alarm = ap (f heard.Alarm) (xor_zero_l b)
+    same_bit : {A : Type 0} (f : Option Heard → ℕ → A) → ((b' : ℕ) → f (Some heard.WrongCheck) b' ≡ f (Some heard.WrongCheck) b) → ((b' : ℕ) → f None b' ≡ f None b) → (s : ℕ) (h : Held) → f (heard_in q s h b) (bit_xor (own_padding c h) b) ≡ f (heard_in q s h b) b
+    same_bit f w z s Alarm = ap (f (Some heard.Alarm)) (xor_zero_l b)
     same_bit f w z s One = z _
     same_bit f w z s (Check k) = by_check f (bit_xor (sent_bit 16 c.check k) b) (w _) (z _) (is_wrong q.check k b)
     same_bit f w z s (Pattern j) = z _

@@ -2,8 +2,9 @@
 use Rattle.std.specs.Prelude.{ℕ, ◌-◌, ◌/◌, ◌%◌, Bool, true, false, cond, List, map, Some, None, Option, ◌==◌, slice_set}
 use Rattle.bank.specs.declared.Envelope.{Envelope}
 use Rattle.bank.specs.Meaning.{Accounts, Meaning, after_give}
+use Rattle.frame.specs.declared.mode.Justification.TheVariants.{Unchanged}
 use Rattle.reception.specs.declared.receiver.Conclusion.{Conclusion}
-use Rattle.reception.specs.declared.receiver.Conclusion.TheVariants.{Nothing, Word, Fault, Justification}
+use Rattle.reception.specs.declared.receiver.Conclusion.TheVariants.{Word, Fault, Justification}
 use Rattle.reception.specs.declared.receiver.FaultKind.{FaultKind}
 use Rattle.reception.specs.declared.receiver.FaultKind.TheVariants.{Lost, Regained, Check, EnvelopeAlignment, Words, AlarmBegun, AlarmEnded}
 use Rattle.reception.specs.Steps.{conclusion, stepped}
@@ -85,17 +86,19 @@ records_past AlarmBegun rs = rs
 records_past AlarmEnded rs = rs
 
 module _ (owner : Owners) where
-  abbrev pub concluded_event : Line → Conclusion → Event
-  concluded_event l Nothing = no_event
-  concluded_event l (Word k w) = slot_event (owner k) l w
-  concluded_event l (Fault kind) = fault_event (fault_at l kind 0)
-  concluded_event l (Justification j disputed) = record { given = None; fault = fault_if disputed (fault_at l Words 0); taken = Some j }
+  -- words that dispute the justification are a fault, and the frame is taken to be unchanged
+  abbrev pub concluded_event : Line → Option Conclusion → Event
+  concluded_event l None = no_event
+  concluded_event l (Some (Word k w)) = slot_event (owner k) l w
+  concluded_event l (Some (Fault kind)) = fault_event (fault_at l kind 0)
+  concluded_event l (Some (Justification (Some j))) = record { given = None; fault = None; taken = Some j }
+  concluded_event l (Some (Justification None)) = record { given = None; fault = Some (fault_at l Words 0); taken = Some Unchanged }
 
-  abbrev pub concluded_line : Line → Conclusion → Line
-  concluded_line l Nothing = l
-  concluded_line l (Word k w) = slot_line (owner k) l w
-  concluded_line l (Fault kind) = with_records (records_past kind l.records) l
-  concluded_line l (Justification j disputed) = l
+  abbrev pub concluded_line : Line → Option Conclusion → Line
+  concluded_line l None = l
+  concluded_line l (Some (Word k w)) = slot_line (owner k) l w
+  concluded_line l (Some (Fault kind)) = with_records (records_past kind l.records) l
+  concluded_line l (Some (Justification told)) = l
 
   -- the line with a bit more received
   abbrev pub heard_line : Line → ℕ → Line

@@ -29,7 +29,7 @@ impl fmt::Display for Delivery {
 /// A fault: its kind, its channel where it is an envelope alignment and otherwise 0, and how many bits were received with
 /// the one at which it showed.
 // The rules give a record a channel of 0 in place of none, so it is no Option.
-#[derive(Clone, Copy)]
+#[derive(Clone, Copy, Debug, PartialEq, Eq)]
 pub struct Fault {
     pub kind: FaultKind,
     pub channel: u16,
@@ -41,7 +41,7 @@ impl fmt::Display for Fault {
     ghost output = { λ r. Some (fault_text r) };
 
     fn fmt<W: fmt::Write>(&self, f: &mut fmt::Formatter<W>) -> fmt::Result {
-        let kind = self.kind.number();
+        let kind = u8::from(self.kind);
         write!(f, "{kind} {} {}", self.channel, self.bits)
     }
 }
@@ -50,13 +50,13 @@ impl Coded for Fault {
     ghost coded = { fault_code };
 
     fn code(&self) -> u16 {
-        self.kind.number() as u16
+        u16::from(u8::from(self.kind))
     }
 }
 
 /// What a bit received concludes: an envelope that is given to a channel, a fault, the justification that a frame is
 /// taken to have. Alignment is lost where the fault is of that kind.
-#[derive(Clone, Copy)]
+#[derive(Clone, Copy, Debug, PartialEq, Eq)]
 pub struct Event {
     pub given: Option<Delivery>,
     pub fault: Option<Fault>,

@@ -1,5 +1,5 @@
 // A bit received: what it concludes, and what it leaves.
-ghost use Rattle.std.specs.Prelude.{◌≡◌};
+ghost use Rattle.std.specs.Prelude.{◌≡◌, Some};
 ghost use Rattle.channel_plan.specs.Tables.{owner_of};
 ghost use Rattle.station.specs.Hearing.{concluded_event, concluded_line, event, fault_at, forgotten, slot_event, slot_line, stepped_line};
 
@@ -7,6 +7,7 @@ use crate::event::{Delivery, Event, Fault};
 use crate::line::{ChannelRecord, Line};
 use crate::slot::Slot;
 use channel_plan::Plan;
+use frame::Justification;
 use reception::{Conclusion, FaultKind};
 
 // Forgets the alignment bits last received.
@@ -49,32 +50,37 @@ impl Line {
 
     // What the receiver concluded, with the plan and the channel records.
     fn conclude(&mut self, plan: &Plan, conclusion: Conclusion) -> Event
-        ensures event { result ≡ concluded_event (owner_of plan.now.table) self.old conclusion }
-        ensures left { self.new ≡ concluded_line (owner_of plan.now.table) self.old conclusion }
+        ensures event { result ≡ concluded_event (owner_of plan.now.table) self.old (Some conclusion) }
+        ensures left { self.new ≡ concluded_line (owner_of plan.now.table) self.old (Some conclusion) }
     {
         match conclusion {
-            Conclusion::Nothing => Event::nothing(),
             Conclusion::Word { slot, bits } => self.hear_slot(plan, slot as u16, bits),
             Conclusion::Fault(kind) => {
-                if let FaultKind::Regained = kind {
+                if kind == FaultKind::Regained {
                     forget(&mut self.records);
                 }
                 Event::from(self.fault(kind, 0))
             }
-            Conclusion::Justification { taken, disputed } => Event {
-                given: None,
-                fault: disputed.then_some(self.fault(FaultKind::Words, 0)),
+            Conclusion::Justification(Some(taken)) => Event {
                 taken: Some(taken),
+                ..Event::nothing()
+            },
+            Conclusion::Justification(None) => Event {
+                taken: Some(Justification::Unchanged),
+                ..Event::from(self.fault(FaultKind::Words, 0))
             },
         }
     }
 
     /// Takes the next bit, the lowest of `bit`.
+    #[tactic(auto, unfolding(crate::specs::Hearing::event, crate::specs::Hearing::stepped_line))]
     pub fn hear(&mut self, plan: &Plan, bit: u8) -> Event
         ensures event { result ≡ event (owner_of plan.now.table) self.old bit }
         ensures left { self.new ≡ stepped_line (owner_of plan.now.table) self.old bit }
     {
-        let conclusion = self.receiver.step(self.mode, bit);
-        self.conclude(plan, conclusion)
+        match self.receiver.step(self.mode, bit) {
+            Some(conclusion) => self.conclude(plan, conclusion),
+            None => Event::nothing(),
+        }
     }
 }

@@ -18,7 +18,7 @@ pub struct ChannelRecord {
 
 /// The plain state of a station: its mode and number, the check bits that its next frame carries, eighty channel records
 /// and its reception.
-#[derive(Clone, Copy)]
+#[derive(Clone, Copy, Debug, PartialEq, Eq)]
 pub struct Line {
     pub mode: Mode,
     pub number: u8,

@@ -20,7 +20,7 @@ fn allowed(mode: Mode, number: i8) -> Option<Justification>
 {
     match mode {
         Mode::Synchronous => (number == 0).then_some(Justification::Unchanged),
-        Mode::Justified => Justification::from_number(number),
+        Mode::Justified => Justification::try_from(number).ok(),
     }
 }
 
