@@ -90,8 +90,7 @@ impl Line {
             justification,
             words,
         };
-        let _ = content.fill(mode, buffer);
-        let length = justification.frame_length();
+        let length = content.fill(mode, buffer).unwrap();
         self.check = next_check(mode, &buffer[..length]);
         length
     }

@@ -1,4 +1,5 @@
-use Rattle.std.proofs.Common.{◌≡◌, ap, ◌∙◌}
+use Rattle.std.proofs.Common.{◌≡◌, ap, ◌∙◌, rules}
+use Rattle.frame.specs.Modes.{frame_length}
 use Rattle.channel_plan.specs.Tables.{owner_of}
 use Rattle.frame.specs.declared.content.Content.{Content}
 use Rattle.station.specs.Frames.{next_check}
@@ -19,8 +20,8 @@ returns g c =
     let is : content ≡ content_of m owner f l j = λ i. record { blocked = c.is_blocked-blocked.ensures i; check = l.check; justification = j; words = c.send_words-words.ensures.words i } in
     let left = c.send_words-words.ensures.line in
     let put = written m owner f l j content is old new c.requires c.fill.ensures.buffer in
-    let size = c.frame_length-length.ensures in
-    let check = c.next_check-self.ensures ∙ ap (next_check l.mode) (front m owner f l j content is old new c.frame_length-length.result size put) in
+    let size : c.unwrap-length.result ≡ frame_length j = search rules in
+    let check = c.next_check-self.ensures ∙ ap (next_check l.mode) (front m owner f l j content is old new c.unwrap-length.result size put) in
     record {
       answer = size;
       buffer = put;
