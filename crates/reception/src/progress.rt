@@ -104,7 +104,10 @@ impl Progress {
         ensures { self.new ≡ moved_on mode self.old bit }
     {
         self.check.remainder = divide_on(self.check.remainder, bit);
-        if (self.place as usize) < self.justification(mode).frame_length() - 1 {
+        // the words are asked only where the shortest frame ends, for the sake of speed
+        if self.place < 2558
+            || (self.place as usize) < self.justification(mode).frame_length() - 1
+        {
             self.place += 1;
         } else {
             self.place = 0;
