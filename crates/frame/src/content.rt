@@ -85,6 +85,7 @@ impl Content {
         ensures length { result ≡ filled_length self.now buffer.old }
         ensures buffer { buffer.new ≡ filled mode self.now buffer.old }
     {
+        // A guard: by then and ? the test would stand in a closure.
         if buffer.len() < LONGEST {
             return None;
         }
