@@ -1,2 +1,1 @@
 pub mod Division
-pub mod Filled

@@ -14,6 +14,7 @@ pub const LONGEST: usize = 2561;
 pub const PATTERN: u16 = 0b11111001101010;
 
 /// What differs from frame to frame. A word holds the ten bits of a slot: status, envelope alignment and octet.
+// The words are an array, since the core allocates nothing.
 #[derive(Clone, Copy, Debug, PartialEq, Eq)]
 pub struct Content {
     pub blocked: bool,
@@ -80,11 +81,11 @@ impl Content {
 
     /// Writes the frame to the front of the buffer and answers its length; a buffer that could be too short for some
     /// frame is left.
-    #[tactic(auto, using(crate::proofs::Filled::written_more, crate::proofs::Filled::written_all), unfolding(crate::specs::Frames::frame))]
     pub fn fill(&self, mode: Mode, buffer: &mut [u8]) -> Option<usize>
         ensures length { result ≡ filled_length self.now buffer.old }
         ensures buffer { buffer.new ≡ filled mode self.now buffer.old }
     {
+        // A guard: by then and ? the test would stand in a closure.
         if buffer.len() < LONGEST {
             return None;
         }

@@ -1,5 +1,6 @@
 // Modes of a bearer, and the justification of a frame.
-ghost use Rattle.std.specs.Prelude.{◌≡◌, ok_or};
+ghost use Rattle.std.specs.Prelude.{◌≡◌, ◌++◌, Some, codes, ok_or};
+ghost use Rattle.std.specs.Fmt.{signed_decimal};
 ghost use Rattle.frame.specs.Modes.{frame_length, justification_of, service_word};
 
 use std::error::Error;
@@ -32,7 +33,7 @@ impl Justification {
         }
     }
 
-    /// The service word that tells it, three bits.
+    /// The service word that tells it, three bits. A justification has two more numbers, its length and its own, so this is no `From`.
     pub fn service_word(self) -> u8
         ensures { result ≡ service_word self }
     {
@@ -65,6 +66,8 @@ impl TryFrom<i8> for Justification {
 }
 
 impl fmt::Display for UnknownJustification {
+    ghost output = { λ unknown. Some (codes "no justification has the number " ++ signed_decimal unknown.0) };
+
     fn fmt<W: fmt::Write>(&self, f: &mut fmt::Formatter<W>) -> fmt::Result {
         write!(f, "no justification has the number {}", self.0)
     }

@@ -22,7 +22,7 @@ pub enum Padding {
     Zero,
 }
 
-/// What bit P1 to P40 of a subframe 1 to 4 holds.
+/// What bit P1 to P40 of a subframe 1 to 4 holds. The two numbers come from a `Role::Padding`, whose names they keep.
 pub fn padding_at(mode: Mode, subframe: u8, index: u8) -> Padding
     ensures { result ≡ padding mode subframe index }
 {

@@ -1,5 +1,5 @@
 -- The four words of a frame, counted as a list and one by one.
-use Rattle.std.proofs.Common.{◌≡◌, ℕ, ◌+◌, Bool, cond, List, [], ◌∷◌, length, Option, Some, None, count_by, eqb, leb, refl, ap, ◌∙◌, arith}
+use Rattle.std.proofs.Common.{◌≡◌, ℕ, cond, List, [], ◌∷◌, length, Option, Some, None, count_by, eqb, leb, refl, ap, arith}
 use Rattle.std.specs.Option.{option_eq}
 use Rattle.reception.specs.Words.{has_majority, is_word, shown}
 

@@ -61,6 +61,7 @@ impl Checking {
     }
 }
 
+// The mode is the bearer's, and handed in: a copy that each frame kept could differ from it.
 impl Progress {
     // From a place on, with the check so far.
     fn from_place(place: u16, check: Checking) -> Progress
@@ -104,7 +105,10 @@ impl Progress {
         ensures { self.new ≡ moved_on mode self.old bit }
     {
         self.check.remainder = divide_on(self.check.remainder, bit);
-        if (self.place as usize) < self.justification(mode).frame_length() - 1 {
+        // The words are asked only where a frame can end, for the sake of speed.
+        if self.place < 2558
+            || (self.place as usize) < self.justification(mode).frame_length() - 1
+        {
             self.place += 1;
         } else {
             self.place = 0;
@@ -113,7 +117,7 @@ impl Progress {
         }
     }
 
-    // Takes a padding bit.
+    // Takes a padding bit, by the two numbers of its `Role::Padding`.
     pub(crate) fn hear_padding(
         &mut self,
         mode: Mode,
