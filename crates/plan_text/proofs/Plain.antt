@@ -5,7 +5,6 @@ use Rattle.std.proofs.lemmas.Fmt.{decimal_digit, decimal-digits_value, digits_de
 use Rattle.std.proofs.lemmas.Str.Parse.{IsNumeralModel, numerals_by_fold, tells_all_ascii_digits}
 use Rattle.std.proofs.lemmas.Bool.{cond-true, cases_eq}
 use Rattle.std.proofs.lemmas.Bool.Decides.{nat_tests}
-use Rattle.plan_text.proofs.Options.{none_some}
 use Rattle.plan_text.specs.Numbers.{reading, opens, digits_of, number_of, Writes}
 
 own : IsNumeralModel (λ ds. all_ascii_digits ds ≡ true) (reading 0)
@@ -23,9 +22,9 @@ parts f n e = at (opens f) (all_ascii_digits f) (ltb (reading 0 f) 65536) refl r
   where
     at : (x y z : Bool) → opens f ≡ x → all_ascii_digits f ≡ y → ltb (reading 0 f) 65536 ≡ z → cond x (cond (y && z) (Some (reading 0 f)) None) None ≡ Some n → (opens f ≡ true) × (all_ascii_digits f ≡ true) × (reading 0 f < 65536) × (n ≡ reading 0 f)
     at true true true p q r e = (p, q, grind (arith, nat_tests), cc)
-    at true true false p q r e = absurd (none_some e)
-    at true false z p q r e = absurd (none_some e)
-    at false y z p q r e = absurd (none_some e)
+    at true true false p q r e = cc
+    at true false z p q r e = cc
+    at false y z p q r e = cc
 
 whole : (f : List ℕ) → opens f ≡ true → all_ascii_digits f ≡ true → reading 0 f < 65536 → number_of f ≡ Some (reading 0 f)
 unfolding number_of
