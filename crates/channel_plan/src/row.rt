@@ -1,35 +1,29 @@
 // One channel's share of the frame.
 ghost use Rattle.std.specs.Prelude.{◌≡◌};
-ghost use Rattle.channel_plan.specs.Listings.{assignment};
+ghost use Rattle.channel_plan.specs.Entries.{is_channel};
 ghost use Rattle.channel_plan.specs.Rows.{group, lies_in, mixes, owns, shares, slots};
 
 use crate::rate::Rate;
 
 /// What a plan assigns to a channel: the slots that leave `first` when divided by the rate's period.
-#[derive(Clone, Copy)]
+#[derive(Clone, Copy, Debug, PartialEq, Eq)]
 pub struct Assignment {
     pub rate: Rate,
     pub first: u16,
 }
 
 /// A row of a plan.
-#[derive(Clone, Copy)]
+#[derive(Clone, Copy, Debug, PartialEq, Eq)]
 pub struct Row {
     pub channel: u16,
-    pub rate: Rate,
-    pub first: u16,
+    pub assignment: Assignment,
 }
 
-impl Row {
-    // What it assigns to its channel.
-    pub(crate) fn assignment(&self) -> Assignment
-        ensures { result ≡ assignment self.now }
-    {
-        Assignment {
-            rate: self.rate,
-            first: self.first,
-        }
-    }
+// Whether there is a channel of that number.
+pub(crate) fn is_channel(channel: u16) -> bool
+    ensures { result ≡ is_channel channel }
+{
+    (1..=80).contains(&channel)
 }
 
 impl Assignment {

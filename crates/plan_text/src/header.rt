@@ -3,7 +3,7 @@ ghost use Rattle.std.specs.Prelude.{◌≡◌};
 ghost use Rattle.std.specs.Result.{result_ok};
 ghost use Rattle.plan_text.specs.Headers.{column_of, header_of, under};
 
-use crate::text::{self, Fields};
+use crate::text::{self, Columns};
 
 /// What a column of a plan file holds.
 #[derive(Clone, Copy, Debug, PartialEq, Eq)]
@@ -20,7 +20,7 @@ pub struct UnknownColumn;
 /// The columns of a plan file from left to right, each once.
 #[derive(Clone, Copy, Debug, PartialEq, Eq)]
 pub struct Header {
-    pub columns: Fields<Column>,
+    pub columns: Columns<Column>,
 }
 
 impl TryFrom<&[u8]> for Column {
@@ -54,7 +54,7 @@ impl Header {
             return None;
         }
         Some(Header {
-            columns: Fields {
+            columns: Columns {
                 left,
                 middle,
                 right,
@@ -63,7 +63,7 @@ impl Header {
     }
 
     /// The value under a name.
-    pub fn under(self, name: Column, values: Fields<u16>) -> u16
+    pub fn under(self, name: Column, values: Columns<u16>) -> u16
         ensures { result ≡ under self name values.left values.middle values.right }
     {
         if self.columns.left == name {

@@ -4,9 +4,9 @@ ghost use Rattle.std.specs.Str.{bytes_eq};
 ghost use Rattle.plan_text.specs.Numbers.{Writes, digits_of, number_of, opens};
 ghost use Rattle.plan_text.specs.Pieces.{Split, Without, fields, three};
 
-/// What stands in the three fields of a line, from left to right.
+/// What stands in the three columns of a line, from left to right.
 #[derive(Clone, Copy, Debug, PartialEq, Eq)]
-pub struct Fields<T> {
+pub struct Columns<T> {
     pub left: T,
     pub middle: T,
     pub right: T,
@@ -24,7 +24,7 @@ pub fn split_once(text: &[u8], separator: u8) -> Option<(&[u8], &[u8])>
 }
 
 /// The fields of a line that has three.
-pub fn three_fields(line: &[u8]) -> Option<Fields<&[u8]>>
+pub fn three_fields(line: &[u8]) -> Option<Columns<&[u8]>>
     ensures parts { MatchOption result (three (fields line.now) ≡ None) (λ f. three (fields line.now) ≡ Some (f.left.now, f.middle.now, f.right.now)) }
     ensures long { IfSome result (λ f. length f.left.now + 1 + (length f.middle.now + 1) + length f.right.now ≡ length line.now) }
 {
@@ -32,7 +32,7 @@ pub fn three_fields(line: &[u8]) -> Option<Fields<&[u8]>>
     let (middle, right) = split_once(rest, b',')?;
     match split_once(right, b',') {
         Some(_) => None,
-        None => Some(Fields {
+        None => Some(Columns {
             left,
             middle,
             right,
