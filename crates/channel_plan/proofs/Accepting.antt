@@ -20,7 +20,7 @@ use Rattle.plan_text.specs.Pieces.{Split, lines}
 use Rattle.channel_plan.specs.Rates.{bits, period, rate_of}
 use Rattle.channel_plan.specs.Entries.{Entries, is_channel, row_at}
 use Rattle.plan_text.proofs.Cuts.{cut_split}
-use Rattle.channel_plan.proofs.Outcomes.{ok_err, ok_same}
+use Rattle.channel_plan.proofs.Outcomes.{ok_same}
 use Rattle.channel_plan.proofs.Tables.{row_at_more}
 
 rate_bits : (r : RateType) (n : ℕ) → rate_of n ≡ Some r → bits r ≡ n

@@ -17,7 +17,7 @@ use Rattle.channel_plan.specs.Adding.{with_row}
 use Rattle.channel_plan.specs.Files.{Values, and_then, numbered, read_from, row_refused, values_of, wholly, with_line, with_lines, with_values}
 use Rattle.channel_plan.specs.Laws.{EndsWith, FieldPlace, LineBegins, LinePlace, PlaceBy, ends}
 use Rattle.channel_plan.specs.Entries.{Entries}
-use Rattle.channel_plan.proofs.Outcomes.{err_same, ok_err}
+use Rattle.channel_plan.proofs.Outcomes.{err_same}
 
 -- how many lines end
 ends_append : (xs ys : List ℕ) → ends (xs ++ ys) ≡ ends xs + ends ys

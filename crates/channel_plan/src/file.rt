@@ -112,10 +112,11 @@ impl Draft {
         let channel = header.under(Column::Channel, values);
         let rate = header.under(Column::Rate, values);
         let first = header.under(Column::First, values);
-        self.add(channel, rate, first).map_err(|refusal| FileRefusal {
-            reason: refusal.into(),
-            line: line.number,
-            byte: line.byte,
-        })
+        self.add(channel, rate, first)
+            .map_err(|refusal| FileRefusal {
+                reason: refusal.into(),
+                line: line.number,
+                byte: line.byte,
+            })
     }
 }

@@ -41,7 +41,7 @@ impl From<rate::UnknownRate> for RowRefusal {
     ghost from_gives = { λ _ refusal. refusal ≡ UnknownRate };
 
     fn from(_unknown: rate::UnknownRate) -> Self {
-        RowRefusal::UnknownRate
+        Self::UnknownRate
     }
 }
 
@@ -81,7 +81,7 @@ impl From<RowRefusal> for Reason {
     ghost from_gives = { λ refusal reason. reason ≡ Row refusal };
 
     fn from(refusal: RowRefusal) -> Self {
-        Reason::Row(refusal)
+        Self::Row(refusal)
     }
 }
 

@@ -26,7 +26,9 @@ impl Table {
     pub(crate) fn new() -> Table
         ensures { result.entries ≡ replicate 80 None }
     {
-        Table { entries: [None; 80] }
+        Table {
+            entries: [None; 80],
+        }
     }
 
     // What the channel is assigned.
@@ -44,21 +46,28 @@ impl Table {
     pub(crate) fn row(&self, channel: u16) -> Option<Row>
         ensures { result ≡ row_of self.now.entries channel }
     {
-        self.assigned(channel).map(|assignment| Row { channel, assignment })
+        self.assigned(channel).map(|assignment| Row {
+            channel,
+            assignment,
+        })
     }
 
     // Whether a row of the assignment's group has another rate.
     fn mixes(&self, new: Assignment) -> bool
         ensures { result ≡ some_row (mixes new) self.now.entries }
     {
-        self.entries.iter().any(|entry| entry.is_some_and(|other| new.mixes(other)))
+        self.entries
+            .iter()
+            .any(|entry| entry.is_some_and(|other| new.mixes(other)))
     }
 
     // Whether a row has a slot of the assignment.
     fn shares(&self, new: Assignment) -> bool
         ensures { result ≡ some_row (shares new) self.now.entries }
     {
-        self.entries.iter().any(|entry| entry.is_some_and(|other| new.shares(other)))
+        self.entries
+            .iter()
+            .any(|entry| entry.is_some_and(|other| new.shares(other)))
     }
 
     // Whether the assignment can stand beside the rows, or why not.
@@ -88,7 +97,10 @@ impl Table {
     pub(crate) fn owner(&self, slot: u16) -> Option<u16>
         ensures { result ≡ owner_from 1 self.now.entries slot }
     {
-        let at = self.entries.iter().position(|entry| entry.is_some_and(|row| row.owns(slot)))?;
+        let at = self
+            .entries
+            .iter()
+            .position(|entry| entry.is_some_and(|row| row.owns(slot)))?;
         Some(at as u16 + 1)
     }
 

@@ -14,7 +14,9 @@ impl Draft {
     pub fn new() -> Draft
         ensures { result.table.entries ≡ replicate 80 None }
     {
-        Draft { table: Table::new() }
+        Draft {
+            table: Table::new(),
+        }
     }
 
     /// Adds a row, or refuses it and leaves the draft.

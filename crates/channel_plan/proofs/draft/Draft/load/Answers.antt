@@ -1,5 +1,4 @@
-use Rattle.std.proofs.Common.{◌≡◌, Ok, Err, Some, None, sym, ap, ◌∙◌, arith, rules}
-use Rattle.channel_plan.specs.Files.{with_file}
+use Rattle.std.proofs.Common.{◌≡◌, Ok, Some, None, sym, ap, ◌∙◌, arith, rules}
 use Rattle.channel_plan.specs.Outcomes.{answer, left}
 use Rattle.channel_plan.proofs.Accepting.{file_joins}
 use Rattle.plan_text.proofs.Cuts.{length_split}

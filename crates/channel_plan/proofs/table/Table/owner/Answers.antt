@@ -1,4 +1,4 @@
-use Rattle.std.proofs.Common.{None, sym, rules}
+use Rattle.std.proofs.Common.{sym, rules}
 use Rattle.channel_plan.proofs.Owners.{owner_none, owner_first}
 use Rattle.channel_plan.proofs.table.Table.owner.Goals as goal
 
