@@ -19,6 +19,6 @@ pub record Next (s : Lines) (l : Line) (t : Lines) : Type 0 where
   pub byte_after : t.byte ≡ s.byte + (length l.text.now + 1)
 
 -- a call gives the next line, if there is one
-abbrev pub Gave : Lines → Option Line → Lines → Type 0
-Gave s None t = Without 10 s.rest.now
-Gave s (Some l) t = Next s l t
+abbrev pub GaveLine : Lines → Option Line → Lines → Type 0
+GaveLine s None t = Without 10 s.rest.now
+GaveLine s (Some l) t = Next s l t

@@ -3,7 +3,10 @@ use Rattle.std.specs.Prelude.{◌≡◌, ℕ, ◌%◌, ◌<◌, Some, Option}
 use Rattle.channel_plan.specs.declared.row.Assignment.{Assignment}
 use Rattle.channel_plan.specs.Entries.{owner_among, row_at}
 use Rattle.channel_plan.specs.Rates.{period}
-pub use Rattle.channel_plan.specs.declared.table.Table.{Table}
+use Rattle.channel_plan.specs.declared.table.Table.{Table as Rows}
+
+abbrev pub Table : Type 0
+Table = Rows
 
 -- the owner of a slot of the frame
 abbrev pub owner_of : Table → ℕ → Option ℕ

@@ -45,9 +45,9 @@ impl<'a> Iterator for Lines<'a> {
 
     ghost use Rattle.std.specs.Prelude.{length};
     ghost use Rattle.std.specs.Iterator.{at_most};
-    ghost use Rattle.channel_plan.specs.Numbering.{Gave};
+    ghost use Rattle.channel_plan.specs.Numbering.{GaveLine};
 
-    ghost next_gives = { Gave };
+    ghost next_gives = { GaveLine };
 
     ghost remaining = { λ s. at_most (length s.rest.now) };
 

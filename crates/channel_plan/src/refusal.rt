@@ -88,7 +88,7 @@ impl From<RowRefusal> for Reason {
 /// Why a plan file is refused, and where: the line from 1, and the byte from 0 at which the field
 /// begins that is no number, or for the other reasons of a line the line. Both are 0 where the reason
 /// is of the whole file.
-// Each refusal is told with a line and a byte, so they are numbers, and 0 is told of the whole file.
+// What is told of any refusal has a line and a byte, so neither is an Option: 0 and 0 are told of the whole file.
 #[derive(Clone, Copy, Debug, PartialEq, Eq)]
 pub struct FileRefusal {
     pub reason: Reason,
