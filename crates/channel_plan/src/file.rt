@@ -100,6 +100,7 @@ impl Draft {
     }
 
     // Adds the row of one line, or refuses it and leaves the draft.
+    #[tactic(auto, unfolding(crate::specs::Files::with_line))]
     fn add_line(&mut self, header: Header, line: Line) -> Result<(), FileRefusal>
         ensures answer { result ≡ answer (with_line header self.old.table.entries line.entry.number line.entry.byte line.entry.text.now) }
         ensures left { self.new.table.entries ≡ left (with_line header self.old.table.entries line.entry.number line.entry.byte line.entry.text.now) self.old.table.entries }

@@ -48,6 +48,7 @@ impl Assignment {
 
     // Whether some slot of the frame goes to both. The longer of two periods is a multiple of the
     // shorter, so the row of the longer period decides by its first slot.
+    #[tactic(auto, using(crate::proofs::Sharing::lies_shares, crate::proofs::Sharing::shares_flip))]
     pub(crate) fn shares(self, other: Assignment) -> bool
         ensures { result ≡ shares self other }
     {
@@ -66,6 +67,7 @@ impl Assignment {
     }
 
     /// How many slots of the frame it gives.
+    #[tactic(auto, using(crate::proofs::Counting::slots_below, crate::proofs::Counting::slots_above, crate::proofs::Sharing::period_range))]
     pub fn slots(self) -> u16
         ensures { result ≡ slots self }
     {

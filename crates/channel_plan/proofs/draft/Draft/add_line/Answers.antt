@@ -7,10 +7,6 @@ use Rattle.plan_text.specs.declared.header.Column.TheVariants.{Channel, Rate, Fi
 use Rattle.channel_plan.proofs.Loading.{row_left, row_told}
 use Rattle.channel_plan.proofs.draft.Draft.add_line.Goals as goal
 
-pub returns-in_err-values : goal.returns-in_err-values
-unfolding with_line
-returns-in_err-values c = search rules
-
 pub returns : goal.returns
 unfolding with_line
 returns c =
