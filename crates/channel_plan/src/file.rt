@@ -65,6 +65,7 @@ fn values(line: &[u8]) -> Result<Columns<u16>, Fault>
 
 impl Draft {
     /// Adds the rows of a plan file, or refuses it and leaves the draft.
+    #[tactic(auto, using(crate::proofs::Loading::file_long, crate::proofs::Loading::file_open, crate::proofs::Loading::file_empty))]
     pub fn load(&mut self, file: &[u8]) -> Result<(), FileRefusal>
         ensures answer { result ≡ answer (with_file self.old.table.entries file.now) }
         ensures left { self.new.table.entries ≡ left (with_file self.old.table.entries file.now) self.old.table.entries }

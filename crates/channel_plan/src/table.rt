@@ -94,6 +94,7 @@ impl Table {
     }
 
     // The lowest channel whose row owns the slot.
+    #[tactic(auto, using(crate::proofs::Owners::owner_none))]
     pub(crate) fn owner(&self, slot: u16) -> Option<u16>
         ensures { result ≡ owner_from 1 self.now.entries slot }
     {

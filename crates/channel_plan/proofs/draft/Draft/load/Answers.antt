@@ -3,27 +3,10 @@ use Rattle.channel_plan.specs.Outcomes.{answer, left}
 use Rattle.channel_plan.proofs.Accepting.{file_joins}
 use Rattle.plan_text.proofs.Cuts.{length_split}
 use Rattle.std.proofs.lemmas.Result.{err_from_is_err_and}
-use Rattle.channel_plan.proofs.Loading.{file_long, file_open, file_empty, file_named, file_lines}
+use Rattle.channel_plan.proofs.Loading.{file_named, file_lines}
 use Rattle.channel_plan.proofs.Placing.{refused_file}
 use Rattle.channel_plan.proofs.Outcomes.{was_err, was_ok}
 use Rattle.channel_plan.proofs.draft.Draft.load.Goals as goal
-
-pub returns-then-file-gt-MAX_FILE : goal.returns-then-file-gt-MAX_FILE
-returns-then-file-gt-MAX_FILE c =
-    let is = file_long c.args.self.now.table.entries c.args.file.now (search rules) in
-    search rules
-
-pub returns-then-not-ended : goal.returns-then-not-ended
-returns-then-not-ended c =
-    let is = file_open c.args.self.now.table.entries c.args.file.now (search rules) (search rules) in
-    search rules
-
-pub returns-in_err-names : goal.returns-in_err-names
-returns-in_err-names c =
-    let missing : c.split_once.result ≡ None = grind arith in
-    let none = rw missing at c.split_once.ensures in
-    let is = file_empty c.args.self.now.table.entries c.args.file.now (search rules) (search rules) none in
-    search rules
 
 pub returns-in_err-header : goal.returns-in_err-header
 returns-in_err-header c =
