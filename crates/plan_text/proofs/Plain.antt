@@ -1,9 +1,10 @@
 -- Plain digits: what a field with a fault in it is, and what a number is written as.
-use Rattle.std.proofs.Common.{◌≡◌, ℕ, ◌+◌, ◌-◌, ◌*◌, ◌<◌, ◌≤◌, Bool, true, false, cond, ◌&&◌, ltb, List, [], ◌∷◌, Some, None, decimal, Option, sym, refl, ap, ◌∙◌, subst, ⊎_elim, arith, rules}
+use Rattle.std.proofs.Common.{◌≡◌, ℕ, ◌+◌, ◌-◌, ◌*◌, ◌<◌, ◌≤◌, Bool, true, false, cond, ◌&&◌, ltb, List, [], ◌∷◌, length, get_or, drop, Some, None, decimal, Option, sym, refl, ap, ◌∙◌, subst, ⊎_elim, arith, rules}
 use Rattle.std.specs.Str.{all_ascii_digits}
 use Rattle.std.proofs.lemmas.Fmt.{decimal_digit, decimal-digits_value, digits_decimal, digits_value-decimal, decimal_nonempty, first_decimal}
 use Rattle.std.proofs.lemmas.Str.Parse.{IsNumeralModel, numerals_by_fold, tells_all_ascii_digits}
 use Rattle.std.proofs.lemmas.Bool.{cond-true, cases_eq}
+use Rattle.std.proofs.lemmas.List.{at_drop_more}
 use Rattle.std.proofs.lemmas.Bool.Decides.{nat_tests}
 use Rattle.plan_text.specs.Numbers.{reading, opens, digits_of, number_of, Writes}
 
@@ -11,9 +12,13 @@ own : IsNumeralModel (λ ds. all_ascii_digits ds ≡ true) (reading 0)
 own = numerals_by_fold _ tells_all_ascii_digits reading (search rules)
 
 -- what is read only grows
-pub reading_ge : (n : ℕ) (ds : List ℕ) → n ≤ reading n ds
+reading_ge : (n : ℕ) (ds : List ℕ) → n ≤ reading n ds
 reading_ge n [] = omega arith
 reading_ge n (d ∷ ds) = omega (arith, reading_ge (n * 10 + (d - 48)) ds)
+
+-- what is read from a digit on is at least what it makes of what was read before
+pub reading_past : (n : ℕ) (ds : List ℕ) (i : ℕ) → i < length ds → n * 10 + (get_or ds i 0 - 48) ≤ reading n (drop i ds)
+reading_past n ds i h = subst (λ m. n * 10 + (get_or ds i 0 - 48) ≤ m) (sym (at_drop_more (reading n) ds i 0 h)) (reading_ge (n * 10 + (get_or ds i 0 - 48)) (drop (i + 1) ds))
 
 -- where a field has a number, it opens well, and is digits that fit
 parts : (f : List ℕ) (n : ℕ) → number_of f ≡ Some n → (opens f ≡ true) × (all_ascii_digits f ≡ true) × (reading 0 f < 65536) × (n ≡ reading 0 f)

@@ -12,9 +12,6 @@ pub struct Columns<T> {
     pub right: T,
 }
 
-// The largest number that a field may write.
-const LARGEST: u32 = 65535;
-
 /// The text before the first separator, and the text after it.
 pub fn split_once(text: &[u8], separator: u8) -> Option<(&[u8], &[u8])>
     ensures { MatchOption result (Without separator text.now) (λ p. Split separator text.now p.0.now p.1.now) }
@@ -68,18 +65,16 @@ fn opens(field: &[u8]) -> bool
 }
 
 // The number that digits write.
+#[tactic(auto, using(crate::proofs::Plain::reading_past))]
 fn digits(field: &[u8]) -> Option<u16>
     ensures { result ≡ digits_of field.now }
 {
-    let mut value: u32 = 0;
+    let mut value: u16 = 0;
     for byte in field {
         if !byte.is_ascii_digit() {
             return None;
         }
-        value = value * 10 + (*byte - b'0') as u32;
-        if value > LARGEST {
-            return None;
-        }
+        value = value.checked_mul(10)?.checked_add(u16::from(*byte - b'0'))?;
     }
-    Some(value as u16)
+    Some(value)
 }
