@@ -10,11 +10,10 @@ use Rattle.plan_text.specs.Pieces.{Split, Three, Without, fields, lines, three}
 use Rattle.plan_text.proofs.Cuts.{ThreeCut, line_cut, three_cut}
 use Rattle.channel_plan.specs.declared.file.Fault.{Fault}
 use Rattle.channel_plan.specs.declared.refusal.FileRefusal.{FileRefusal}
-use Rattle.channel_plan.specs.declared.refusal.Reason.{Reason}
 use Rattle.channel_plan.specs.declared.refusal.Reason.TheVariants.{Fields, Number, Row}
 use Rattle.channel_plan.specs.declared.refusal.RowRefusal.{RowRefusal}
 use Rattle.channel_plan.specs.Adding.{with_row}
-use Rattle.channel_plan.specs.Files.{Values, and_then, numbered, read_from, row_refused, values_of, wholly, with_line, with_lines, with_values}
+use Rattle.channel_plan.specs.Files.{Values, and_then, numbered, read_from, row_refused, values_of, with_line, with_lines, with_values}
 use Rattle.channel_plan.specs.Laws.{EndsWith, FieldPlace, LineBegins, LinePlace, PlaceBy, ends}
 use Rattle.channel_plan.specs.Entries.{Entries}
 use Rattle.channel_plan.proofs.Outcomes.{err_same}
@@ -143,7 +142,3 @@ pub refused_file : (h : Header) (t : Entries) (file names rest : List ℕ) → S
 refused_file h t file names rest cut e bad =
     refused_lines h (lines rest) t 2 (length names + 1) file (names ++ (10 ∷ [])) rest (cut.whole ∙ sym (append_assoc names (10 ∷ []) rest)) (length-append names (10 ∷ []))
     (omega (arith, ends_append names (10 ∷ []), ends_none names cut.first)) (inr (names, refl)) refl e bad
-
--- a refusal of the whole file
-pub refused_whole : (file : List ℕ) (reason : Reason) (e : FileRefusal) → PlaceBy reason file (wholly reason) → e ≡ wholly reason → PlaceBy e.reason file e
-refused_whole file reason e at is = subst (λ g. PlaceBy g.reason file g) (sym is) at
