@@ -1,5 +1,6 @@
 pub mod Accepting
 pub mod Counting
+pub mod Filling
 pub mod Loading
 pub mod Outcomes
 pub mod Owners

@@ -1,5 +1,5 @@
 -- What an answer tells of the outcome behind it.
-use Rattle.std.proofs.Common.{◌≡◌, ℕ, Ok, Err, Result, refl, ap, arith}
+use Rattle.std.proofs.Common.{◌≡◌, Ok, Err, Result, refl}
 use Rattle.channel_plan.specs.Outcomes.{answer, left}
 
 module _ {X E : Type 0} where
@@ -9,13 +9,10 @@ module _ {X E : Type 0} where
   pub err_same : {e f : E} → ◌≡◌ {A = Result X E} (Err e) (Err f) → e ≡ f
   err_same p = cc
 
-  pub ok_err : {x : X} {e : E} → ◌≡◌ {A = Result X E} (Ok x) (Err e) → ⊥
-  ok_err p = let z : ◌≡◌ {A = ℕ} 0 1 = cc in omega arith
-
   pub was_ok : (o : Result X E) (old : X) → Ok tt ≡ answer o → o ≡ Ok (left o old)
   was_ok (Ok x) old p = refl
-  was_ok (Err e) old p = let z : ◌≡◌ {A = ℕ} 0 1 = cc in absurd (omega arith)
+  was_ok (Err e) old p = cc
 
   pub was_err : (o : Result X E) (e : E) → Err e ≡ answer o → o ≡ Err e
-  was_err (Ok x) e p = let z : ◌≡◌ {A = ℕ} 0 1 = cc in absurd (omega arith)
-  was_err (Err f) e p = let same : f ≡ e = cc in ap Err same
+  was_err (Ok x) e p = cc
+  was_err (Err f) e p = cc

@@ -8,15 +8,15 @@ use Rattle.plan_text.specs.Headers.{under}
 use Rattle.plan_text.specs.Numbers.{number_of}
 use Rattle.plan_text.specs.Pieces.{Split, Three, Without, fields, lines, three}
 use Rattle.plan_text.proofs.Cuts.{ThreeCut, line_cut, three_cut}
+use Rattle.channel_plan.specs.declared.file.Fault.{Fault}
 use Rattle.channel_plan.specs.declared.refusal.FileRefusal.{FileRefusal}
-use Rattle.channel_plan.specs.declared.refusal.Reason.{Reason}
 use Rattle.channel_plan.specs.declared.refusal.Reason.TheVariants.{Fields, Number, Row}
 use Rattle.channel_plan.specs.declared.refusal.RowRefusal.{RowRefusal}
 use Rattle.channel_plan.specs.Adding.{with_row}
-use Rattle.channel_plan.specs.Files.{Fault, Values, and_then, numbered, read_from, row_refused, values_of, wholly, with_line, with_lines, with_values}
+use Rattle.channel_plan.specs.Files.{Values, and_then, numbered, read_from, row_refused, values_of, with_line, with_lines, with_values}
 use Rattle.channel_plan.specs.Laws.{EndsWith, FieldPlace, LineBegins, LinePlace, PlaceBy, ends}
-use Rattle.channel_plan.specs.Tables.{Table}
-use Rattle.channel_plan.proofs.Outcomes.{err_same, ok_err}
+use Rattle.channel_plan.specs.Entries.{Entries}
+use Rattle.channel_plan.proofs.Outcomes.{err_same}
 
 -- how many lines end
 ends_append : (xs ys : List ℕ) → ends (xs ++ ys) ≡ ends xs + ends ys
@@ -92,39 +92,39 @@ module _ (file front l rest : List ℕ) (line byte : ℕ) (whole : file ≡ fron
         (inr (front ++ (a ++ (44 ∷ b)), ap (λ xs. front ++ xs) (sym (append_assoc a (44 ∷ b) (44 ∷ []))) ∙ sym (append_assoc front (a ++ (44 ∷ b)) (44 ∷ [])))) cut.right (inr refl) wrong refl
         (omega (arith, length-append a (44 ∷ (b ++ (44 ∷ []))), length-append b (44 ∷ [])))
 
-    numbers_place : (x y z : Option ℕ) → number_of a ≡ x → number_of b ≡ y → number_of c ≡ z → (fault : Fault) → numbered (a, b, c) x y z ≡ Err fault → PlaceBy fault.0 file (record { reason = fault.0; line = line; byte = byte + fault.1 })
-    numbers_place None y z p q r fault bad = subst (λ g. PlaceBy g.0 file (record { reason = g.0; line = line; byte = byte + g.1 })) (err_same bad) (left_place p)
-    numbers_place (Some x) None z p q r fault bad = subst (λ g. PlaceBy g.0 file (record { reason = g.0; line = line; byte = byte + g.1 })) (err_same bad) (middle_place q)
-    numbers_place (Some x) (Some y) None p q r fault bad = subst (λ g. PlaceBy g.0 file (record { reason = g.0; line = line; byte = byte + g.1 })) (err_same bad) (right_place r)
-    numbers_place (Some x) (Some y) (Some z) p q r fault bad = absurd (ok_err bad)
+    numbers_place : (x y z : Option ℕ) → number_of a ≡ x → number_of b ≡ y → number_of c ≡ z → (fault : Fault) → numbered (a, b, c) x y z ≡ Err fault → PlaceBy fault.reason file (record { reason = fault.reason; line = line; byte = byte + fault.at })
+    numbers_place None y z p q r fault bad = subst (λ g. PlaceBy g.reason file (record { reason = g.reason; line = line; byte = byte + g.at })) (err_same bad) (left_place p)
+    numbers_place (Some x) None z p q r fault bad = subst (λ g. PlaceBy g.reason file (record { reason = g.reason; line = line; byte = byte + g.at })) (err_same bad) (middle_place q)
+    numbers_place (Some x) (Some y) None p q r fault bad = subst (λ g. PlaceBy g.reason file (record { reason = g.reason; line = line; byte = byte + g.at })) (err_same bad) (right_place r)
+    numbers_place (Some x) (Some y) (Some z) p q r fault bad = cc
 
-  fault_place : (o : Option Three) → three (fields l) ≡ o → (fault : Fault) → read_from o ≡ Err fault → PlaceBy fault.0 file (record { reason = fault.0; line = line; byte = byte + fault.1 })
+  fault_place : (o : Option Three) → three (fields l) ≡ o → (fault : Fault) → read_from o ≡ Err fault → PlaceBy fault.reason file (record { reason = fault.reason; line = line; byte = byte + fault.at })
   fault_place None e fault bad =
-      subst (λ g. PlaceBy g.0 file (record { reason = g.0; line = line; byte = byte + g.1 })) (err_same bad) (line_place (record { reason = Fields; line = line; byte = byte + 0 }) refl (omega arith))
+      subst (λ g. PlaceBy g.reason file (record { reason = g.reason; line = line; byte = byte + g.at })) (err_same bad) (line_place (record { reason = Fields; line = line; byte = byte + 0 }) refl (omega arith))
   fault_place (Some f) e fault bad =
       numbers_place f.0 f.1 f.2 (three_cut l f.0 f.1 f.2 e) (number_of f.0) (number_of f.1) (number_of f.2) refl refl refl fault bad
 
-  refused_line : (h : Header) (t : Table) (e : FileRefusal) → with_line h t line byte l ≡ Err e → PlaceBy e.reason file e
+  refused_line : (h : Header) (t : Entries) (e : FileRefusal) → with_line h t line byte l ≡ Err e → PlaceBy e.reason file e
   unfolding with_line
   refused_line h t e bad = by_values (values_of l) refl bad
     where
-      by_row : (o : Result Table RowRefusal) → row_refused line byte o ≡ Err e → PlaceBy e.reason file e
-      by_row (Ok u) same = absurd (ok_err same)
+      by_row : (o : Result Entries RowRefusal) → row_refused line byte o ≡ Err e → PlaceBy e.reason file e
+      by_row (Ok u) same = cc
       by_row (Err x) same = subst (λ g. PlaceBy g.reason file g) (err_same same) (line_place (record { reason = Row x; line = line; byte = byte }) refl refl)
 
       by_values : (o : Result Values Fault) → values_of l ≡ o → with_values h t line byte o ≡ Err e → PlaceBy e.reason file e
-      by_values (Ok v) is same = by_row (with_row t (under h Channel v.0 v.1 v.2) (under h Rate v.0 v.1 v.2) (under h First v.0 v.1 v.2)) same
+      by_values (Ok v) is same = by_row (with_row t (under h Channel v.left v.middle v.right) (under h Rate v.left v.middle v.right) (under h First v.left v.middle v.right)) same
       by_values (Err f) is same = subst (λ g. PlaceBy g.reason file g) (err_same same) (fault_place (three (fields l)) refl f is)
 
 -- either this line is refused, or a later one
-split : (h : Header) (t : Table) (l : List ℕ) (line byte : ℕ) (e : FileRefusal) (file : List ℕ) (o : Result Table FileRefusal) → with_line h t line byte l ≡ o → (later : Table → Result Table FileRefusal) → and_then o later ≡ Err e → (with_line h t line byte l ≡ Err e → PlaceBy e.reason file e) → ((u : Table) → later u ≡ Err e → PlaceBy e.reason file e) → PlaceBy e.reason file e
+split : (h : Header) (t : Entries) (l : List ℕ) (line byte : ℕ) (e : FileRefusal) (file : List ℕ) (o : Result Entries FileRefusal) → with_line h t line byte l ≡ o → (later : Entries → Result Entries FileRefusal) → and_then o later ≡ Err e → (with_line h t line byte l ≡ Err e → PlaceBy e.reason file e) → ((u : Entries) → later u ≡ Err e → PlaceBy e.reason file e) → PlaceBy e.reason file e
 split h t l line byte e file (Ok u) is later bad here there = there u bad
 split h t l line byte e file (Err f) is later bad here there = here (is ∙ bad)
 
 -- line by line
-pub refused_lines : (h : Header) (ls : List (List ℕ)) (t : Table) (line byte : ℕ) (file front text : List ℕ) → file ≡ front ++ text → length front ≡ byte → ends front + 1 ≡ line → LineBegins front → lines text ≡ ls → (e : FileRefusal) → with_lines h t line byte ls ≡ Err e → PlaceBy e.reason file e
+pub refused_lines : (h : Header) (ls : List (List ℕ)) (t : Entries) (line byte : ℕ) (file front text : List ℕ) → file ≡ front ++ text → length front ≡ byte → ends front + 1 ≡ line → LineBegins front → lines text ≡ ls → (e : FileRefusal) → with_lines h t line byte ls ≡ Err e → PlaceBy e.reason file e
 unfolding with_lines
-refused_lines h [] t line byte file front text whole at counted begins are e bad = absurd (ok_err bad)
+refused_lines h [] t line byte file front text whole at counted begins are e bad = cc
 refused_lines h (l ∷ ls) t line byte file front text whole at counted begins are e bad =
     let c = line_cut text l ls are in
     let all : file ≡ front ++ (l ++ (10 ∷ c.rest)) = whole ∙ ap (λ xs. front ++ xs) c.whole in
@@ -138,11 +138,7 @@ refused_lines h (l ∷ ls) t line byte file front text whole at counted begins a
     (inr (front ++ l, sym (append_assoc front l (10 ∷ [])))) c.others e)
 
 -- the lines of values behind the names
-pub refused_file : (h : Header) (t : Table) (file names rest : List ℕ) → Split 10 file names rest → (e : FileRefusal) → with_lines h t 2 (length names + 1) (lines rest) ≡ Err e → PlaceBy e.reason file e
+pub refused_file : (h : Header) (t : Entries) (file names rest : List ℕ) → Split 10 file names rest → (e : FileRefusal) → with_lines h t 2 (length names + 1) (lines rest) ≡ Err e → PlaceBy e.reason file e
 refused_file h t file names rest cut e bad =
     refused_lines h (lines rest) t 2 (length names + 1) file (names ++ (10 ∷ [])) rest (cut.whole ∙ sym (append_assoc names (10 ∷ []) rest)) (length-append names (10 ∷ []))
     (omega (arith, ends_append names (10 ∷ []), ends_none names cut.first)) (inr (names, refl)) refl e bad
-
--- a refusal of the whole file
-pub refused_whole : (file : List ℕ) (reason : Reason) (e : FileRefusal) → PlaceBy reason file (wholly reason) → e ≡ wholly reason → PlaceBy e.reason file e
-refused_whole file reason e at is = subst (λ g. PlaceBy g.reason file g) (sym is) at

@@ -1,14 +1,16 @@
 -- Look-ups in a table of rows, and what one row more keeps.
-use Rattle.std.proofs.Common.{◌≡◌, ℕ, zero, suc, ◌-◌, ◌<◌, ◌≤◌, Bool, true, false, cond, not, ◌&&◌, eqb, ltb, [], ◌∷◌, length, get_or, set, replicate, Some, None, Option, sym, refl, ap, ◌∙◌, subst, ⊎_elim, arith}
-use Rattle.std.proofs.lemmas.List.{get_or-set_same, get_or-set_other}
-use Rattle.std.proofs.lemmas.Bool.{and_right, or_parts, cases_eq, eq-eqb, ne_eqb, cond-true, cond-false}
+use Rattle.std.proofs.Common.{◌≡◌, ℕ, zero, suc, ◌+◌, ◌-◌, ◌<◌, ◌≤◌, Bool, true, false, cond, not, ◌&&◌, eqb, ltb, [], ◌∷◌, ◌++◌, length, get_or, set, is_some, IfSome, replicate, Some, None, Ok, Option, sym, refl, ap, ◌∙◌, subst, ⊎_elim, arith}
+use Rattle.std.proofs.lemmas.List.{get_or-set_same, get_or-set_other, at_drop_more, at_drop_all}
+use Rattle.std.proofs.lemmas.Bool.{and_right, or_parts, cases_eq, eq-eqb, ne_eqb, cond-true, cond-false, false≢true, true≢false}
 use Rattle.std.proofs.lemmas.Bool.Decides.{nat_tests}
 use Rattle.channel_plan.specs.declared.row.Assignment.{Assignment}
 use Rattle.channel_plan.specs.Rates.{period}
 use Rattle.channel_plan.specs.Rows.{owns, mixes, shares}
 use Rattle.channel_plan.specs.declared.refusal.RowRefusal.TheVariants.{GroupRate, SlotTaken}
-use Rattle.channel_plan.specs.Adding.{conflict}
-use Rattle.channel_plan.specs.Tables.{Table, is_channel, row_at, passes, some_row, holds, Below, OneRate, Apart}
+use Rattle.channel_plan.specs.Adding.{conflict, unless}
+use Rattle.channel_plan.specs.Outcomes.{answer}
+use Rattle.std.specs.Option.{option_to_list}
+use Rattle.channel_plan.specs.Entries.{Entries, NextRow, as_row, is_channel, row_at, row_of, rows_from, rows_after, passes, some_row, holds, Below, OneRate, Apart}
 use Rattle.channel_plan.proofs.Sharing.{not_shared}
 
 -- no row at all
@@ -36,12 +38,12 @@ apart_none c d s =
     ∙ and_right (not (eqb c d)) (ltb s 240 && false) (and_right (ltb s 240) false refl)
 
 -- a row that passes is there
-pub some_none : (p : Assignment → Bool) (t : Table) → some_row p t ≡ false → (k : ℕ) → passes p (get_or t k None) ≡ false
+pub some_none : (p : Assignment → Bool) (t : Entries) → some_row p t ≡ false → (k : ℕ) → passes p (get_or t k None) ≡ false
 some_none p [] h k = refl
 some_none p (o ∷ t) h zero = (or_parts (passes p o) (some_row p t) h).0
 some_none p (o ∷ t) h (suc k) = some_none p t (or_parts (passes p o) (some_row p t) h).1 k
 
-pub some_none_at : (p : Assignment → Bool) (t : Table) → some_row p t ≡ false → (c : ℕ) → passes p (row_at t c) ≡ false
+pub some_none_at : (p : Assignment → Bool) (t : Entries) → some_row p t ≡ false → (c : ℕ) → passes p (row_at t c) ≡ false
 some_none_at p t h c = at (is_channel c)
   where
     at : (b : Bool) → passes p (cond b (get_or t (c - 1) None) None) ≡ false
@@ -49,8 +51,8 @@ some_none_at p t h c = at (is_channel c)
     at false = refl
 
 -- the table with one row more
-module _ (t : Table) (channel : ℕ) (new : Assignment) (long : length t ≡ 80) (low : 0 < channel) (high : channel ≤ 80) where
-  abbrev more : Table
+module _ (t : Entries) (channel : ℕ) (new : Assignment) (long : length t ≡ 80) (low : 0 < channel) (high : channel ≤ 80) where
+  abbrev more : Entries
   more = set t (channel - 1) (Some new)
 
   row_at_same : row_at more channel ≡ Some new
@@ -113,10 +115,57 @@ module _ (t : Table) (channel : ℕ) (new : Assignment) (long : length t ≡ 80)
       at false true p q = let e = old_clear c in grind (arith, nat_tests)
       at false false p q = old c d s
 
-pub no_conflict : (t : Table) (a : Assignment) → conflict t a ≡ None → (some_row (mixes a) t ≡ false) × (some_row (shares a) t ≡ false)
+pub no_conflict : (t : Entries) (a : Assignment) → answer (unless (conflict t a) a) ≡ Ok tt → (some_row (mixes a) t ≡ false) × (some_row (shares a) t ≡ false)
 no_conflict t a e = at (some_row (mixes a) t) (some_row (shares a) t) e
   where
-    at : (x y : Bool) → cond x (Some GroupRate) (cond y (Some SlotTaken) None) ≡ None → (x ≡ false) × (y ≡ false)
-    at true y p = let z : ◌≡◌ {A = ℕ} 0 1 = cc in absurd (omega arith)
-    at false true p = let z : ◌≡◌ {A = ℕ} 0 1 = cc in absurd (omega arith)
+    at : (x y : Bool) → answer (unless (cond x (Some GroupRate) (cond y (Some SlotTaken) None)) a) ≡ Ok tt → (x ≡ false) × (y ≡ false)
+    at true y p = cc
+    at false true p = cc
     at false false p = (refl, refl)
+
+-- where no channel above c up to the i-th has a row, the rows after c are those after the i-th
+skipped : (t : Entries) (n c : ℕ) → ((k : ℕ) → c ≤ k → k < c + n → is_some (row_at t (k + 1)) ≡ false) → n ≤ 80 - c → length t ≡ 80 → rows_after t c ≡ rows_after t (c + n)
+skipped t zero c none low long = ap (rows_after t) (omega arith)
+skipped t (suc n) c none low long =
+    at_drop_more (rows_from (c + 1)) t c None (omega arith)
+    ∙ ap (λ o. option_to_list (as_row (c + 1) o) ++ rows_after t (c + 1)) (no_row (none c (omega arith) (omega arith)))
+    ∙ skipped t n (c + 1) (λ k from below. none k (omega arith) (omega arith)) (omega arith) long
+    ∙ ap (rows_after t) (omega arith)
+  where
+    there : row_at t (c + 1) ≡ get_or t c None
+    there = cond-true (is_channel (c + 1)) _ _ (grind (arith, nat_tests)) ∙ ap (λ k. get_or t k None) (omega arith)
+
+    no_row : is_some (row_at t (c + 1)) ≡ false → get_or t c None ≡ None
+    no_row e = at (get_or t c None) refl (ap is_some (sym there) ∙ e)
+      where
+        at : (o : Option Assignment) → get_or t c None ≡ o → is_some o ≡ false → get_or t c None ≡ None
+        at None p q = p
+        at (Some a) p q = absurd (true≢false q)
+
+pub rows_none : (t : Entries) (c : ℕ) → length t ≡ 80 → ((k : ℕ) → c ≤ k → k < 80 → is_some (row_at t (k + 1)) ≡ false) → rows_after t c ≡ []
+rows_none t c long none = skipped t (80 - c) c (λ k from below. none k from (omega arith)) (omega arith) long ∙ at_end (c + (80 - c)) (omega arith)
+  where
+    at_end : (d : ℕ) → 80 ≤ d → rows_after t d ≡ []
+    at_end d past = at_drop_all (rows_from (d + 1)) t d (omega arith)
+
+pub rows_next : (t : Entries) (c i : ℕ) → length t ≡ 80 → c ≤ i → i < 80 → is_some (row_at t (i + 1)) ≡ true → ((k : ℕ) → c ≤ k → k < i → is_some (row_at t (k + 1)) ≡ false) → NextRow t c (row_of t (i + 1))
+rows_next t c i long from below is before = at (row_at t (i + 1)) refl is
+  where
+    there : row_at t (i + 1) ≡ get_or t i None
+    there = cond-true (is_channel (i + 1)) _ _ (grind (arith, nat_tests)) ∙ ap (λ k. get_or t k None) (omega arith)
+
+    at : (o : Option Assignment) → row_at t (i + 1) ≡ o → is_some o ≡ true → NextRow t c (as_row (i + 1) o)
+    at None p q = absurd (false≢true q)
+    at (Some a) p q =
+        skipped t (i - c) c (λ k low high. before k low (omega arith)) (omega arith) long
+        ∙ ap (rows_after t) (omega arith)
+        ∙ at_drop_more (rows_from (i + 1)) t i None (omega arith)
+        ∙ ap (λ o. option_to_list (as_row (i + 1) o) ++ rows_after t (i + 1)) (sym there ∙ p)
+
+-- it stands above c
+pub next_above : (t : Entries) (c i : ℕ) → c ≤ i → i < 80 → IfSome (row_of t (i + 1)) (λ r. (c < r.channel) × (r.channel ≤ 80))
+next_above t c i from below = at (row_at t (i + 1))
+  where
+    at : (o : Option Assignment) → IfSome (as_row (i + 1) o) (λ r. (c < r.channel) × (r.channel ≤ 80))
+    at None = tt
+    at (Some a) = (omega arith, omega arith)

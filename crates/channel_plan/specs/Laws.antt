@@ -11,15 +11,15 @@ use Rattle.plan_text.specs.Headers.{header_of, under}
 use Rattle.plan_text.specs.Numbers.{number_of}
 use Rattle.plan_text.specs.Pieces.{Without, lines}
 use Rattle.channel_plan.specs.Rates.{bits}
-use Rattle.channel_plan.specs.Tables.{Table, row_at}
+use Rattle.channel_plan.specs.Entries.{Entries, row_at}
 
 -- under these names the line says: channel c, this rate and this first slot
 pub record Says (h : Header) (line : List ℕ) (c : ℕ) (a : Assignment) : Type 0 where
   pub values : Values
   pub numbers : values_of line ≡ Ok values
-  pub channel : under h Channel values.0 values.1 values.2 ≡ c
-  pub rate : under h Rate values.0 values.1 values.2 ≡ bits a.rate
-  pub first : under h First values.0 values.1 values.2 ≡ a.first
+  pub channel : under h Channel values.left values.middle values.right ≡ c
+  pub rate : under h Rate values.left values.middle values.right ≡ bits a.rate
+  pub first : under h First values.left values.middle values.right ≡ a.first
 
 -- one of the lines says it
 pub record SomeLine (h : Header) (rest : List (List ℕ)) (c : ℕ) (a : Assignment) : Type 0 where
@@ -37,13 +37,13 @@ pub record States (file : List ℕ) (c : ℕ) (a : Assignment) : Type 0 where
   pub line : SomeLine header rest c a
 
 -- the rows that `after` has are those of `before` and those that P says
-pub record Joins (before after : Table) (P : ℕ → Assignment → Type 0) : Type 0 where
+pub record Joins (before after : Entries) (P : ℕ → Assignment → Type 0) : Type 0 where
   pub old : (c : ℕ) (a : Assignment) → row_at before c ≡ Some a → row_at after c ≡ Some a
   pub new : (c : ℕ) (a : Assignment) → P c a → row_at after c ≡ Some a
   pub only : (c : ℕ) (a : Assignment) → row_at after c ≡ Some a → (row_at before c ≡ Some a) ⊎ P c a
 
 -- a file that is accepted leaves the rows that were there and the file's rows, and no others
-abbrev pub Accepted : Result Unit FileRefusal → Table → List ℕ → Table → Type 0
+abbrev pub Accepted : Result Unit FileRefusal → Entries → List ℕ → Entries → Type 0
 Accepted (Ok x) before file after = Joins before after (States file)
 Accepted (Err e) before file after = Unit {0}
 

@@ -1,8 +1,10 @@
 pub mod Adding
+pub mod Entries
 pub mod Files
 pub mod Iterating
 pub mod Laws
 pub mod Listings
+pub mod Numbering
 pub mod Outcomes
 pub mod Rates
 pub mod Refusals

@@ -2,22 +2,18 @@
 use Rattle.std.specs.Prelude.{ℕ, List, ◌++◌, replicate, None, Ok, Err, codes, decimal, Result}
 use Rattle.std.specs.List.{flat_map}
 use Rattle.channel_plan.specs.declared.refusal.FileRefusal.{FileRefusal}
-use Rattle.channel_plan.specs.declared.row.Assignment.{Assignment}
 use Rattle.channel_plan.specs.declared.row.Row.{Row}
 use Rattle.channel_plan.specs.Files.{with_file}
 use Rattle.channel_plan.specs.Rates.{bits}
 use Rattle.channel_plan.specs.Refusals.{file_number}
 use Rattle.channel_plan.specs.Rows.{slots}
-use Rattle.channel_plan.specs.Tables.{Table, rows_after}
-
-abbrev pub assignment : Row → Assignment
-assignment r = record { rate = r.rate; first = r.first }
+use Rattle.channel_plan.specs.Entries.{Entries, rows_after}
 
 -- a row, as the listing prints it
 abbrev pub row_text : Row → List ℕ
 row_text r =
     decimal r.channel
-    ++ (codes "," ++ (decimal (bits r.rate) ++ (codes "," ++ (decimal r.first ++ (codes "," ++ decimal (slots (assignment r)))))))
+    ++ (codes "," ++ (decimal (bits r.assignment.rate) ++ (codes "," ++ (decimal r.assignment.first ++ (codes "," ++ decimal (slots r.assignment))))))
 
 -- a refusal of a file, as it is printed
 abbrev pub refusal_text : FileRefusal → List ℕ
@@ -29,10 +25,10 @@ abbrev pub row_lines : List Row → List ℕ
 row_lines rs = flat_map (λ r. row_text r ++ codes "\n") rs
 
 -- the listing of a plan: a line of names, and a line for each row by rising channel
-unfoldable pub listing : Table → List ℕ
+unfoldable pub listing : Entries → List ℕ
 listing t = codes "channel,rate,first,slots\n" ++ row_lines (rows_after t 0)
 
-abbrev pub told : Result Table FileRefusal → List ℕ
+abbrev pub told : Result Entries FileRefusal → List ℕ
 told (Ok t) = listing t
 told (Err e) = refusal_text e ++ codes "\n"
 

@@ -1,90 +1,21 @@
--- The rows of a plan as a table by channel, which channel owns a slot, and which rows may stand together.
-use Rattle.std.specs.Prelude.{◌≡◌, ℕ, ◌+◌, ◌-◌, ◌%◌, ◌<◌, Bool, false, cond, not, ◌&&◌, ◌||◌, List, [], ◌∷◌, ◌++◌, drop, Some, None, Option, ◌==◌, nat_le, nat_lt, slice_index_or}
-use Rattle.std.specs.Option.{option_to_list}
+-- The owner of a slot by a table of rows.
+use Rattle.std.specs.Prelude.{◌≡◌, ℕ, ◌%◌, ◌<◌, Some, Option}
 use Rattle.channel_plan.specs.declared.row.Assignment.{Assignment}
-use Rattle.channel_plan.specs.declared.row.Row.{Row}
+use Rattle.channel_plan.specs.Entries.{owner_among, row_at}
 use Rattle.channel_plan.specs.Rates.{period}
-use Rattle.channel_plan.specs.Rows.{owns, mixes}
+use Rattle.channel_plan.specs.declared.table.Table.{Table as Rows}
 
--- entry i is what channel i + 1 is assigned
 abbrev pub Table : Type 0
-Table = List (Option Assignment)
-
-abbrev pub is_channel : ℕ → Bool
-is_channel c = nat_le 1 c && nat_le c 80
-
--- what channel c is assigned
-abbrev pub row_at : Table → ℕ → Option Assignment
-row_at t c = cond (is_channel c) (slice_index_or t (c - 1) None) None
-
-abbrev pub as_row : ℕ → Option Assignment → Option Row
-as_row c None = None
-as_row c (Some a) = Some (record { channel = c; rate = a.rate; first = a.first })
-
--- the row of channel c
-abbrev pub row_of : Table → ℕ → Option Row
-row_of t c = as_row c (row_at t c)
-
--- the rows by rising channel, where the first entry is that of channel c
-abbrev pub rows_from : ℕ → Table → List Row
-rows_from c [] = []
-rows_from c (o ∷ t) = option_to_list (as_row c o) ++ rows_from (c + 1) t
-
--- the rows of the channels above c
-abbrev pub rows_after : Table → ℕ → List Row
-rows_after t c = rows_from (c + 1) (drop c t)
-
--- the next row after those of the channels up to c, if there is one
-abbrev pub NextRow : Table → ℕ → Option Row → Type 0
-NextRow t c None = rows_after t c ≡ []
-NextRow t c (Some r) = rows_after t c ≡ r ∷ rows_after t r.channel
-
--- there is a row, and it passes the test
-abbrev pub passes : (Assignment → Bool) → Option Assignment → Bool
-passes p None = false
-passes p (Some a) = p a
-
-abbrev pub some_row : (Assignment → Bool) → Table → Bool
-some_row p [] = false
-some_row p (o ∷ t) = passes p o || some_row p t
-
--- the channel has the slot
-abbrev pub holds : Table → ℕ → ℕ → Bool
-holds t c s = passes (λ a. owns a s) (row_at t c)
-
--- the first channel from c on whose row owns the slot
-abbrev pub owner_from : ℕ → Table → ℕ → Option ℕ
-owner_from c [] s = None
-owner_from c (o ∷ t) s = cond (passes (λ a. owns a s) o) (Some c) (owner_from (c + 1) t s)
+Table = Rows
 
 -- the owner of a slot of the frame
 abbrev pub owner_of : Table → ℕ → Option ℕ
-owner_of t s = cond (nat_lt s 240) (owner_from 1 t s) None
-
--- every first slot lies below its period
-abbrev pub Below : Table → Type 0
-Below t = (c : ℕ) → passes (λ a. not (nat_lt a.first (period a.rate))) (row_at t c) ≡ false
-
--- all rows of a group have one rate
-abbrev pub OneRate : Table → Type 0
-OneRate t = (c d : ℕ) → passes (λ a. passes (mixes a) (row_at t d)) (row_at t c) ≡ false
-
--- a slot of the frame goes to two channels
-abbrev pub twice : Table → ℕ → ℕ → ℕ → Bool
-twice t c d s = not (c == d) && (nat_lt s 240 && (holds t c s && holds t d s))
-
--- no slot of the frame goes to two channels
-abbrev pub Apart : Table → Type 0
-Apart t = (c d s : ℕ) → twice t c d s ≡ false
-
--- the table of owners is what the rows say
-abbrev pub Owned : Table → List (Option ℕ) → Type 0
-Owned t owners = (s : ℕ) → s < 240 → slice_index_or owners s None ≡ owner_of t s
+owner_of t s = owner_among t.entries s
 
 -- channel c has a row, and its period and first slot give it slot s of the frame
 pub record Owns (t : Table) (c s : ℕ) : Type 0 where
   pub row : Assignment
-  pub there : row_at t c ≡ Some row
+  pub there : row_at t.entries c ≡ Some row
   pub framed : s < 240
   pub falls : s % period row.rate ≡ row.first
 

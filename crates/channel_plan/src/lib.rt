@@ -3,6 +3,7 @@
 
 pub mod draft;
 pub mod file;
+mod lines;
 pub mod listing;
 pub mod plan;
 pub mod rate;
@@ -14,7 +15,7 @@ mod table;
 
 pub use draft::Draft;
 pub use plan::Plan;
-pub use rate::Rate;
+pub use rate::{Rate, UnknownRate};
 pub use refusal::{FileRefusal, Reason, RowRefusal};
 pub use report::report_on;
 pub use row::{Assignment, Row};

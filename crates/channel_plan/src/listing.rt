@@ -12,16 +12,16 @@ impl fmt::Display for Row {
 
     fn fmt<W: fmt::Write>(&self, f: &mut fmt::Formatter<W>) -> fmt::Result {
         let channel = self.channel;
-        let bits = self.rate.bits();
-        let first = self.first;
-        let slots = self.assignment().slots();
+        let bits = u16::from(self.assignment.rate);
+        let first = self.assignment.first;
+        let slots = self.assignment.slots();
         write!(f, "{channel},{bits},{first},{slots}")
     }
 }
 
 /// A plan prints as its listing.
 impl fmt::Display for Plan {
-    ghost output = { λ p. Some (listing p.table) };
+    ghost output = { λ p. Some (listing p.table.entries) };
 
     fn fmt<W: fmt::Write>(&self, f: &mut fmt::Formatter<W>) -> fmt::Result {
         writeln!(f, "channel,rate,first,slots")?;
@@ -36,7 +36,7 @@ impl fmt::Display for FileRefusal {
     ghost output = { λ r. Some (refusal_text r) };
 
     fn fmt<W: fmt::Write>(&self, f: &mut fmt::Formatter<W>) -> fmt::Result {
-        let number = self.reason.number();
+        let number = u8::from(self.reason);
         let line = self.line;
         let byte = self.byte;
         write!(f, "refused {number} line {line} byte {byte}")

@@ -1,17 +1,14 @@
 // A sealed plan.
-ghost use Rattle.channel_plan.specs.Tables.{Apart, Below, OneRate, Owned};
+ghost use Rattle.channel_plan.specs.Entries.{Owned};
 
-use crate::row::Assignment;
+use crate::table::Table;
 
 /// The rows of a draft, with the owner of each slot worked out from them.
 #[derive(Clone, Copy)]
 pub struct Plan {
-    table: [Option<Assignment>; 80],
+    table: Table,
     owners: [Option<u16>; 240],
-    ghost below: { Below table },
-    ghost one_rate: { OneRate table },
-    ghost apart: { Apart table },
-    ghost owned: { Owned table owners },
+    ghost owned: { Owned table.entries owners },
 }
 
 mod reading;

@@ -1,35 +1,29 @@
 // One channel's share of the frame.
 ghost use Rattle.std.specs.Prelude.{◌≡◌};
-ghost use Rattle.channel_plan.specs.Listings.{assignment};
+ghost use Rattle.channel_plan.specs.Entries.{is_channel};
 ghost use Rattle.channel_plan.specs.Rows.{group, lies_in, mixes, owns, shares, slots};
 
 use crate::rate::Rate;
 
 /// What a plan assigns to a channel: the slots that leave `first` when divided by the rate's period.
-#[derive(Clone, Copy)]
+#[derive(Clone, Copy, Debug, PartialEq, Eq)]
 pub struct Assignment {
     pub rate: Rate,
     pub first: u16,
 }
 
 /// A row of a plan.
-#[derive(Clone, Copy)]
+#[derive(Clone, Copy, Debug, PartialEq, Eq)]
 pub struct Row {
     pub channel: u16,
-    pub rate: Rate,
-    pub first: u16,
+    pub assignment: Assignment,
 }
 
-impl Row {
-    // What it assigns to its channel.
-    pub(crate) fn assignment(&self) -> Assignment
-        ensures { result ≡ assignment self.now }
-    {
-        Assignment {
-            rate: self.rate,
-            first: self.first,
-        }
-    }
+// Whether there is a channel of that number.
+pub(crate) fn is_channel(channel: u16) -> bool
+    ensures { result ≡ is_channel channel }
+{
+    (1..=80).contains(&channel)
 }
 
 impl Assignment {
@@ -54,6 +48,7 @@ impl Assignment {
 
     // Whether some slot of the frame goes to both. The longer of two periods is a multiple of the
     // shorter, so the row of the longer period decides by its first slot.
+    #[tactic(auto, using(crate::proofs::Sharing::lies_shares, crate::proofs::Sharing::shares_flip))]
     pub(crate) fn shares(self, other: Assignment) -> bool
         ensures { result ≡ shares self other }
     {
@@ -72,6 +67,7 @@ impl Assignment {
     }
 
     /// How many slots of the frame it gives.
+    #[tactic(auto, using(crate::proofs::Counting::slots_below, crate::proofs::Counting::slots_above, crate::proofs::Sharing::period_range))]
     pub fn slots(self) -> u16
         ensures { result ≡ slots self }
     {

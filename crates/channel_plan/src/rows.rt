@@ -1,7 +1,7 @@
 // The rows of a plan by rising channel.
 ghost use Rattle.std.specs.Prelude.{◌≡◌, ◌-◌};
+ghost use Rattle.channel_plan.specs.Entries.{rows_after};
 ghost use Rattle.channel_plan.specs.Iterating.{Gave, to_come};
-ghost use Rattle.channel_plan.specs.Tables.{rows_after};
 ghost use Rattle.std.specs.Iterator.{at_most};
 
 use crate::plan::Plan;
@@ -16,7 +16,7 @@ pub struct Rows<'a> {
 
 impl Plan {
     pub fn rows(&self) -> Rows<'_>
-        ensures { to_come result ≡ rows_after self.now.table 0 }
+        ensures { to_come result ≡ rows_after self.now.table.entries 0 }
     {
         Rows {
             plan: self,
@@ -33,12 +33,8 @@ impl Iterator for Rows<'_> {
     ghost remaining = { λ s. at_most (80 - s.seen) };
 
     fn next(&mut self) -> Option<Row> {
-        match self.plan.row_after(self.seen) {
-            Some(row) => {
-                self.seen = row.channel;
-                Some(row)
-            }
-            None => None,
-        }
+        let row = self.plan.row_after(self.seen)?;
+        self.seen = row.channel;
+        Some(row)
     }
 }

@@ -1,85 +1,123 @@
-// Questions to a table of rows: entry i is what channel i + 1 is assigned.
-ghost use Rattle.std.specs.Prelude.{◌≡◌, ◌<◌, ◌≤◌, IfSome};
-ghost use Rattle.channel_plan.specs.Adding.{conflict};
-ghost use Rattle.channel_plan.specs.Tables.{NextRow, Owned, owner_from, row_at};
+// Tables of rows by channel.
+ghost use Rattle.std.specs.Prelude.{◌≡◌, ◌-◌, ◌<◌, ◌≤◌, true, length, replicate, IfSome, Some, None, Ok, slice_set};
+ghost use Rattle.channel_plan.specs.Adding.{conflict, unless};
+ghost use Rattle.channel_plan.specs.Entries.{Apart, Below, NextRow, OneRate, Owned, is_channel, owner_from, row_at, row_of, some_row};
+ghost use Rattle.channel_plan.specs.Outcomes.{answer};
+ghost use Rattle.channel_plan.specs.Rates.{period};
+ghost use Rattle.channel_plan.specs.Rows.{mixes, shares};
 
 use crate::refusal::RowRefusal;
-use crate::row::{Assignment, Row};
+use crate::row::{self, Assignment, Row};
+use std::array;
 
-pub(crate) fn assigned_to(table: &[Option<Assignment>; 80], channel: u16) -> Option<Assignment>
-    ensures { result ≡ row_at table.now channel }
-{
-    if channel == 0 || channel > 80 {
-        return None;
-    }
-    table[channel as usize - 1]
+// Entry i is what channel i + 1 is assigned. Its invariant is what makes a plan: no slot goes to two
+// channels.
+#[derive(Clone, Copy)]
+pub(crate) struct Table {
+    entries: [Option<Assignment>; 80],
+    ghost below: { Below entries },
+    ghost one_rate: { OneRate entries },
+    ghost apart: { Apart entries },
+    ghost long: { length entries ≡ 80 },
 }
 
-// Why the assignment cannot stand beside the rows, if it cannot.
-pub(crate) fn conflict_with(table: &[Option<Assignment>; 80], new: Assignment) -> Option<RowRefusal>
-    ensures { result ≡ conflict table.now new }
-{
-    let mut mixed = false;
-    let mut taken = false;
-    for row in table {
-        if let Some(other) = row {
-            if new.mixes(*other) {
-                mixed = true;
-            }
-            if new.shares(*other) {
-                taken = true;
-            }
+impl Table {
+    // A table with no row.
+    pub(crate) fn new() -> Table
+        ensures { result.entries ≡ replicate 80 None }
+    {
+        Table {
+            entries: [None; 80],
         }
     }
-    if mixed {
-        Some(RowRefusal::GroupRate)
-    } else if taken {
-        Some(RowRefusal::SlotTaken)
-    } else {
-        None
-    }
-}
 
-// The lowest channel whose row owns the slot.
-pub(crate) fn owner_among(table: &[Option<Assignment>; 80], slot: u16) -> Option<u16>
-    ensures { result ≡ owner_from 1 table.now slot }
-{
-    let mut channel: u16 = 1;
-    for row in table {
-        if let Some(assignment) = row
-            && assignment.owns(slot)
-        {
-            return Some(channel);
-        }
-        channel += 1;
-    }
-    None
-}
-
-// The owner of each slot of the frame.
-pub(crate) fn owners_of(table: &[Option<Assignment>; 80]) -> [Option<u16>; 240]
-    ensures { Owned table.now result }
-{
-    let mut owners = [None; 240];
-    for slot in 0..240u16 {
-        owners[slot as usize] = owner_among(table, slot);
-    }
-    owners
-}
-
-// The row of the lowest channel above this one.
-pub(crate) fn next_row(table: &[Option<Assignment>; 80], channel: u16) -> Option<Row>
-    ensures next { NextRow table.now channel result }
-    ensures above { IfSome result (λ row. (channel < row.channel) × (row.channel ≤ 80)) }
-{
-    for seen in channel..80 {
-        if let Some(assignment) = table[seen as usize] {
-            return Some(Row {
-                channel: seen + 1,
-                rate: assignment.rate,
-                first: assignment.first,
-            });
+    // What the channel is assigned.
+    pub(crate) fn assigned(&self, channel: u16) -> Option<Assignment>
+        ensures { result ≡ row_at self.now.entries channel }
+    {
+        if row::is_channel(channel) {
+            self.entries[channel as usize - 1]
+        } else {
+            None
         }
     }
-    None
+
+    // The row of the channel.
+    pub(crate) fn row(&self, channel: u16) -> Option<Row>
+        ensures { result ≡ row_of self.now.entries channel }
+    {
+        self.assigned(channel).map(|assignment| Row {
+            channel,
+            assignment,
+        })
+    }
+
+    // Whether a row of the assignment's group has another rate.
+    fn mixes(&self, new: Assignment) -> bool
+        ensures { result ≡ some_row (mixes new) self.now.entries }
+    {
+        self.entries
+            .iter()
+            .any(|entry| entry.is_some_and(|other| new.mixes(other)))
+    }
+
+    // Whether a row has a slot of the assignment.
+    fn shares(&self, new: Assignment) -> bool
+        ensures { result ≡ some_row (shares new) self.now.entries }
+    {
+        self.entries
+            .iter()
+            .any(|entry| entry.is_some_and(|other| new.shares(other)))
+    }
+
+    // Whether the assignment can stand beside the rows, or why not.
+    pub(crate) fn admits(&self, new: Assignment) -> Result<(), RowRefusal>
+        ensures { result ≡ answer (unless (conflict self.now.entries new) new) }
+    {
+        if self.mixes(new) {
+            Err(RowRefusal::GroupRate)
+        } else if self.shares(new) {
+            Err(RowRefusal::SlotTaken)
+        } else {
+            Ok(())
+        }
+    }
+
+    // Assigns to a channel what the table admits.
+    pub(crate) fn assign(&mut self, channel: u16, new: Assignment)
+        requires channel { is_channel channel ≡ true }
+        requires below { new.first < period new.rate }
+        requires admitted { answer (unless (conflict self.old.entries new) new) ≡ Ok tt }
+        ensures { self.new.entries ≡ slice_set self.old.entries (channel - 1) (Some new) }
+    {
+        self.entries[channel as usize - 1] = Some(new);
+    }
+
+    // The lowest channel whose row owns the slot.
+    #[tactic(auto, using(crate::proofs::Owners::owner_none))]
+    pub(crate) fn owner(&self, slot: u16) -> Option<u16>
+        ensures { result ≡ owner_from 1 self.now.entries slot }
+    {
+        let at = self
+            .entries
+            .iter()
+            .position(|entry| entry.is_some_and(|row| row.owns(slot)))?;
+        Some(at as u16 + 1)
+    }
+
+    // The owner of each slot of the frame.
+    pub(crate) fn owners(&self) -> [Option<u16>; 240]
+        ensures { Owned self.now.entries result }
+    {
+        array::from_fn(|slot| self.owner(slot as u16))
+    }
+
+    // The row of the lowest channel above this one.
+    pub(crate) fn row_after(&self, channel: u16) -> Option<Row>
+        ensures next { NextRow self.now.entries channel result }
+        ensures above { IfSome result (λ row. (channel < row.channel) × (row.channel ≤ 80)) }
+    {
+        let seen = (channel..80).find(|seen| self.assigned(*seen + 1).is_some())?;
+        self.row(seen + 1)
+    }
 }

@@ -1,22 +1,8 @@
 -- Pieces of a text, by the first separator.
-use Rattle.std.proofs.Common.{◌≡◌, ℕ, zero, suc, ◌+◌, ◌-◌, ◌<◌, Bool, true, false, cond, eqb, ◌⊎◌, List, [], ◌∷◌, ◌++◌, length, get_or, take, drop, Some, None, sym, refl, ap, ◌∙◌, subst, inl, inr, ⊎_elim, arith}
-use Rattle.std.proofs.lemmas.List.{length-append, take-append-drop, drop_more, take_rest, length-take-le, get_or-take}
+use Rattle.std.proofs.Common.{◌≡◌, ℕ, zero, suc, ◌+◌, Bool, true, false, cond, eqb, ◌⊎◌, List, [], ◌∷◌, ◌++◌, length, Some, None, sym, refl, ap, ◌∙◌, subst, inl, inr, ⊎_elim, arith}
+use Rattle.std.proofs.lemmas.List.{length-append}
 use Rattle.std.proofs.lemmas.Bool.{cases_eq, cond-true, cond-false, eq-eqb, ne_eqb}
-use Rattle.plan_text.proofs.Options.{none_some, some_same}
-use Rattle.plan_text.specs.Pieces.{longer, cut, lines, fields, three, Without, Split}
-
-pub split_at : (sep : ℕ) (text : List ℕ) (i : ℕ) → i < length text → get_or text i 0 ≡ sep → ((k : ℕ) → k < i → get_or text k 0 ≡ sep → ⊥) → Split sep text (take (i - 0) text) (take (length text - (i + 1)) (drop (i + 1) text))
-split_at sep text i h e before = record {
-  whole =
-      sym (take-append-drop i text)
-      ∙ ap (λ rest. take i text ++ rest) (drop_more text i 0 h ∙ ap (λ b. b ∷ drop (i + 1) text) e)
-      ∙ ap (λ n. take n text ++ (sep ∷ drop (i + 1) text)) front
-      ∙ ap (λ rest. take (i - 0) text ++ (sep ∷ rest)) (sym (take_rest text (i + 1)));
-  first = subst (λ n. Without sep (take n text)) front (λ k below is. let low : k < i = omega (arith, length-take-le i text (omega arith)) in before k low (sym (get_or-take i text k 0 low) ∙ is));
-}
-  where
-    front : i ≡ i - 0
-    front = omega arith
+use Rattle.plan_text.specs.Pieces.{Three, longer, cut, lines, fields, three, Without, Split}
 
 module _ (sep : ℕ) (end : List (List ℕ)) where
   after_byte : (b : ℕ) (bs : List ℕ) → Without sep (b ∷ bs) → cut sep end (b ∷ bs) ≡ longer b (cut sep end bs)
@@ -83,9 +69,6 @@ pub record Cut (sep : ℕ) (end : List (List ℕ)) (text p : List ℕ) (ps : Lis
 cut_longer : (sep : ℕ) (end : List (List ℕ)) (b : ℕ) (bs p : List ℕ) (ps : List (List ℕ)) → (b ≡ sep → ⊥) → Cut sep end bs p ps → Cut sep end (b ∷ bs) (b ∷ p) ps
 cut_longer sep end b bs p ps ne c = record { rest = c.rest; whole = ap (λ xs. b ∷ xs) c.whole; first = without_cons sep b p ne c.first; others = c.others }
 
-nil_cons : {X : Type 0} {x : X} {xs : List X} → [] ≡ x ∷ xs → ⊥
-nil_cons e = let z : ◌≡◌ {A = ℕ} 0 1 = cc in omega arith
-
 -- a text that begins with the separator
 cut_now : (sep : ℕ) (end : List (List ℕ)) (b : ℕ) (bs p : List ℕ) (ps : List (List ℕ)) → b ≡ sep → cut sep end (b ∷ bs) ≡ p ∷ ps → Cut sep end (b ∷ bs) p ps
 cut_now sep end b bs p ps is e =
@@ -99,7 +82,7 @@ cut_later : (sep : ℕ) (end : List (List ℕ)) (b : ℕ) (bs p : List ℕ) (ps 
 cut_later sep end b bs p ps ne e = at (cut sep end bs) refl (sym (cond-false (eqb b sep) _ _ (ne_eqb b sep ne)) ∙ e)
   where
     at : (qs : List (List ℕ)) → cut sep end bs ≡ qs → longer b qs ≡ p ∷ ps → (q : List ℕ) × (p ≡ b ∷ q) × (cut sep end bs ≡ q ∷ ps)
-    at [] is same = absurd (nil_cons same)
+    at [] is same = cc
     at (q ∷ qs) is same =
         let first : p ≡ b ∷ q = cc in
         let others : qs ≡ ps = cc in
@@ -107,7 +90,7 @@ cut_later sep end b bs p ps ne e = at (cut sep end bs) refl (sym (cond-false (eq
 
 -- a line of a text has its end behind it
 pub line_cut : (text l : List ℕ) (ls : List (List ℕ)) → lines text ≡ l ∷ ls → Cut 10 [] text l ls
-line_cut [] l ls e = absurd (nil_cons e)
+line_cut [] l ls e = cc
 line_cut (b ∷ bs) l ls e =
     ⊎_elim (λ is. cut_now 10 [] b bs l ls is e)
     (λ ne. let c = cut_later 10 [] b bs l ls ne e in subst (λ p. Cut 10 [] (b ∷ bs) p ls) (sym c.1) (cut_longer 10 [] b bs c.0 ls ne (line_cut bs c.0 ls c.2)))
@@ -134,22 +117,22 @@ pub record ThreeCut (text a b c : List ℕ) : Type 0 where
   pub right : Without 44 c
 
 three_are : (ps : List (List ℕ)) (a b c : List ℕ) → three ps ≡ Some (a, b, c) → ps ≡ a ∷ b ∷ c ∷ []
-three_are [] a b c e = absurd (none_some e)
-three_are (x ∷ []) a b c e = absurd (none_some e)
-three_are (x ∷ y ∷ []) a b c e = absurd (none_some e)
+three_are [] a b c e = cc
+three_are (x ∷ []) a b c e = cc
+three_are (x ∷ y ∷ []) a b c e = cc
 three_are (x ∷ y ∷ z ∷ []) a b c e =
-    let same : (x, y, z) ≡ (a, b, c) = some_same e in
+    let same : ◌≡◌ {A = Three} (x, y, z) (a, b, c) = cc in
     λ i. (same i).0 ∷ (same i).1 ∷ (same i).2 ∷ []
-three_are (x ∷ y ∷ z ∷ w ∷ ps) a b c e = absurd (none_some e)
+three_are (x ∷ y ∷ z ∷ w ∷ ps) a b c e = cc
 
 -- the last of the fields
 last_field : (text c : List ℕ) → fields text ≡ c ∷ [] → (text ≡ c) × Without 44 c
 last_field text c e =
-    ⊎_elim (λ x. let more = fields_some x.rest in absurd (nil_cons (sym x.others ∙ more.2))) (λ x. (x.1, x.2)) (field_cut text c [] e)
+    ⊎_elim (λ x. let more = fields_some x.rest in cc (x.others, more.2)) (λ x. (x.1, x.2)) (field_cut text c [] e)
 
 -- one that is not
 next_field : (text p q : List ℕ) (ps : List (List ℕ)) → fields text ≡ p ∷ q ∷ ps → Cut 44 ([] ∷ []) text p (q ∷ ps)
-next_field text p q ps e = ⊎_elim (λ x. x) (λ x. absurd (nil_cons (sym x.0))) (field_cut text p (q ∷ ps) e)
+next_field text p q ps e = ⊎_elim (λ x. x) (λ x. cc (x.0)) (field_cut text p (q ∷ ps) e)
 
 pub three_cut : (text a b c : List ℕ) → three (fields text) ≡ Some (a, b, c) → ThreeCut text a b c
 three_cut text a b c e =

@@ -1,20 +1,24 @@
 -- Plain digits: what a field with a fault in it is, and what a number is written as.
-use Rattle.std.proofs.Common.{◌≡◌, ℕ, ◌+◌, ◌-◌, ◌*◌, ◌<◌, ◌≤◌, Bool, true, false, cond, ◌&&◌, ltb, List, [], ◌∷◌, Some, None, decimal, Option, sym, refl, ap, ◌∙◌, subst, ⊎_elim, arith, rules}
+use Rattle.std.proofs.Common.{◌≡◌, ℕ, ◌+◌, ◌-◌, ◌*◌, ◌<◌, ◌≤◌, Bool, true, false, cond, ◌&&◌, ltb, List, [], ◌∷◌, length, get_or, drop, Some, None, decimal, Option, sym, refl, ap, ◌∙◌, subst, ⊎_elim, arith, rules}
 use Rattle.std.specs.Str.{all_ascii_digits}
 use Rattle.std.proofs.lemmas.Fmt.{decimal_digit, decimal-digits_value, digits_decimal, digits_value-decimal, decimal_nonempty, first_decimal}
 use Rattle.std.proofs.lemmas.Str.Parse.{IsNumeralModel, numerals_by_fold, tells_all_ascii_digits}
 use Rattle.std.proofs.lemmas.Bool.{cond-true, cases_eq}
+use Rattle.std.proofs.lemmas.List.{at_drop_more}
 use Rattle.std.proofs.lemmas.Bool.Decides.{nat_tests}
-use Rattle.plan_text.proofs.Options.{none_some}
 use Rattle.plan_text.specs.Numbers.{reading, opens, digits_of, number_of, Writes}
 
 own : IsNumeralModel (λ ds. all_ascii_digits ds ≡ true) (reading 0)
 own = numerals_by_fold _ tells_all_ascii_digits reading (search rules)
 
 -- what is read only grows
-pub reading_ge : (n : ℕ) (ds : List ℕ) → n ≤ reading n ds
+reading_ge : (n : ℕ) (ds : List ℕ) → n ≤ reading n ds
 reading_ge n [] = omega arith
 reading_ge n (d ∷ ds) = omega (arith, reading_ge (n * 10 + (d - 48)) ds)
+
+-- what is read from a digit on is at least what it makes of what was read before
+pub reading_past : (n : ℕ) (ds : List ℕ) (i : ℕ) → i < length ds → n * 10 + (get_or ds i 0 - 48) ≤ reading n (drop i ds)
+reading_past n ds i h = subst (λ m. n * 10 + (get_or ds i 0 - 48) ≤ m) (sym (at_drop_more (reading n) ds i 0 h)) (reading_ge (n * 10 + (get_or ds i 0 - 48)) (drop (i + 1) ds))
 
 -- where a field has a number, it opens well, and is digits that fit
 parts : (f : List ℕ) (n : ℕ) → number_of f ≡ Some n → (opens f ≡ true) × (all_ascii_digits f ≡ true) × (reading 0 f < 65536) × (n ≡ reading 0 f)
@@ -23,9 +27,9 @@ parts f n e = at (opens f) (all_ascii_digits f) (ltb (reading 0 f) 65536) refl r
   where
     at : (x y z : Bool) → opens f ≡ x → all_ascii_digits f ≡ y → ltb (reading 0 f) 65536 ≡ z → cond x (cond (y && z) (Some (reading 0 f)) None) None ≡ Some n → (opens f ≡ true) × (all_ascii_digits f ≡ true) × (reading 0 f < 65536) × (n ≡ reading 0 f)
     at true true true p q r e = (p, q, grind (arith, nat_tests), cc)
-    at true true false p q r e = absurd (none_some e)
-    at true false z p q r e = absurd (none_some e)
-    at false y z p q r e = absurd (none_some e)
+    at true true false p q r e = cc
+    at true false z p q r e = cc
+    at false y z p q r e = cc
 
 whole : (f : List ℕ) → opens f ≡ true → all_ascii_digits f ≡ true → reading 0 f < 65536 → number_of f ≡ Some (reading 0 f)
 unfolding number_of

@@ -28,7 +28,7 @@ each_once None b c = None
 each_once (Some a) None c = None
 each_once (Some a) (Some b) None = None
 each_once (Some a) (Some b) (Some c) =
-    cond (same a b || (same a c || same b c)) None (Some (record { left = a; middle = b; right = c }))
+    cond (same a b || (same a c || same b c)) None (Some (record { columns = record { left = a; middle = b; right = c } }))
 
 abbrev pub named : Option Three → Option Header
 named None = None
@@ -40,4 +40,4 @@ header_of line = named (three (fields line))
 
 -- the value under a name, of three from left to right
 abbrev pub under : Header → Column → ℕ → ℕ → ℕ → ℕ
-under h name x y z = cond (same h.left name) x (cond (same h.middle name) y z)
+under h name x y z = cond (same h.columns.left name) x (cond (same h.columns.middle name) y z)

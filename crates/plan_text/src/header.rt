@@ -1,37 +1,42 @@
 // The names line of a plan file.
 ghost use Rattle.std.specs.Prelude.{◌≡◌};
+ghost use Rattle.std.specs.Result.{result_ok};
 ghost use Rattle.plan_text.specs.Headers.{column_of, header_of, under};
 
-use crate::text;
+use crate::text::{self, Columns};
 
 /// What a column of a plan file holds.
-#[derive(Clone, Copy, PartialEq, Eq)]
+#[derive(Clone, Copy, Debug, PartialEq, Eq)]
 pub enum Column {
     Channel,
     Rate,
     First,
 }
 
+/// A name that no column has.
+#[derive(Clone, Copy, Debug, PartialEq, Eq)]
+pub struct UnknownColumn;
+
 /// The columns of a plan file from left to right, each once.
-#[derive(Clone, Copy)]
+#[derive(Clone, Copy, Debug, PartialEq, Eq)]
 pub struct Header {
-    pub left: Column,
-    pub middle: Column,
-    pub right: Column,
+    pub columns: Columns<Column>,
 }
 
-impl Column {
-    fn named(field: &[u8]) -> Option<Column>
-        ensures { result ≡ column_of field.now }
-    {
-        if text::is_word(field, b"channel") {
-            Some(Column::Channel)
-        } else if text::is_word(field, b"rate") {
-            Some(Column::Rate)
-        } else if text::is_word(field, b"first") {
-            Some(Column::First)
+impl TryFrom<&[u8]> for Column {
+    type Error = UnknownColumn;
+
+    ghost try_from_gives = { λ name column. result_ok column ≡ column_of name.now };
+
+    fn try_from(name: &[u8]) -> Result<Self, UnknownColumn> {
+        if text::is_word(name, b"channel") {
+            Ok(Column::Channel)
+        } else if text::is_word(name, b"rate") {
+            Ok(Column::Rate)
+        } else if text::is_word(name, b"first") {
+            Ok(Column::First)
         } else {
-            None
+            Err(UnknownColumn)
         }
     }
 }
@@ -41,38 +46,32 @@ impl Header {
     pub fn read(line: &[u8]) -> Option<Header>
         ensures { result ≡ header_of line.now }
     {
-        let Some((left, middle, right)) = text::three_fields(line) else {
-            return None;
-        };
-        let Some(left) = Column::named(left) else {
-            return None;
-        };
-        let Some(middle) = Column::named(middle) else {
-            return None;
-        };
-        let Some(right) = Column::named(right) else {
-            return None;
-        };
+        let names = text::three_fields(line)?;
+        let left = Column::try_from(names.left).ok()?;
+        let middle = Column::try_from(names.middle).ok()?;
+        let right = Column::try_from(names.right).ok()?;
         if left == middle || left == right || middle == right {
             return None;
         }
         Some(Header {
-            left,
-            middle,
-            right,
+            columns: Columns {
+                left,
+                middle,
+                right,
+            },
         })
     }
 
     /// The value under a name.
-    pub fn under(self, name: Column, left: u16, middle: u16, right: u16) -> u16
-        ensures { result ≡ under self name left middle right }
+    pub fn under(self, name: Column, values: Columns<u16>) -> u16
+        ensures { result ≡ under self name values.left values.middle values.right }
     {
-        if self.left == name {
-            left
-        } else if self.middle == name {
-            middle
+        if self.columns.left == name {
+            values.left
+        } else if self.columns.middle == name {
+            values.middle
         } else {
-            right
+            values.right
         }
     }
 }

@@ -4,4 +4,5 @@
 pub mod header;
 pub mod text;
 
-pub use header::{Column, Header};
+pub use header::{Column, Header, UnknownColumn};
+pub use text::Columns;

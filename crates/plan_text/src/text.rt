@@ -4,35 +4,36 @@ ghost use Rattle.std.specs.Str.{bytes_eq};
 ghost use Rattle.plan_text.specs.Numbers.{Writes, digits_of, number_of, opens};
 ghost use Rattle.plan_text.specs.Pieces.{Split, Without, fields, three};
 
-// The largest number that a field may write.
-const LARGEST: u32 = 65535;
+/// What stands in the three columns of a line, from left to right.
+#[derive(Clone, Copy, Debug, PartialEq, Eq)]
+pub struct Columns<T> {
+    pub left: T,
+    pub middle: T,
+    pub right: T,
+}
 
 /// The text before the first separator, and the text after it.
 pub fn split_once(text: &[u8], separator: u8) -> Option<(&[u8], &[u8])>
     ensures { MatchOption result (Without separator text.now) (λ p. Split separator text.now p.0.now p.1.now) }
 {
-    for (i, byte) in text.iter().enumerate() {
-        if *byte == separator {
-            return Some((&text[0..i], &text[i + 1..]));
-        }
-    }
-    None
+    let i = text.iter().position(|byte| *byte == separator)?;
+    Some((&text[..i], &text[i + 1..]))
 }
 
 /// The fields of a line that has three.
-pub fn three_fields(line: &[u8]) -> Option<(&[u8], &[u8], &[u8])>
-    ensures parts { MatchOption result (three (fields line.now) ≡ None) (λ f. three (fields line.now) ≡ Some (f.0.now, f.1.now, f.2.now)) }
-    ensures long { IfSome result (λ f. length f.0.now + 1 + (length f.1.now + 1) + length f.2.now ≡ length line.now) }
+pub fn three_fields(line: &[u8]) -> Option<Columns<&[u8]>>
+    ensures parts { MatchOption result (three (fields line.now) ≡ None) (λ f. three (fields line.now) ≡ Some (f.left.now, f.middle.now, f.right.now)) }
+    ensures long { IfSome result (λ f. length f.left.now + 1 + (length f.middle.now + 1) + length f.right.now ≡ length line.now) }
 {
-    let Some((left, rest)) = split_once(line, b',') else {
-        return None;
-    };
-    let Some((middle, right)) = split_once(rest, b',') else {
-        return None;
-    };
+    let (left, rest) = split_once(line, b',')?;
+    let (middle, right) = split_once(rest, b',')?;
     match split_once(right, b',') {
         Some(_) => None,
-        None => Some((left, middle, right)),
+        None => Some(Columns {
+            left,
+            middle,
+            right,
+        }),
     }
 }
 
@@ -44,6 +45,7 @@ pub fn is_word(field: &[u8], word: &[u8]) -> bool
 }
 
 /// The number that a field writes in plain digits.
+#[tactic(auto, using(crate::proofs::Plain::writes_by), unfolding(crate::specs::Numbers::number_of))]
 pub fn number(field: &[u8]) -> Option<u16>
     ensures value { result ≡ number_of field.now }
     ensures plain { (n : ℕ) → Writes field.now result n }
@@ -63,18 +65,16 @@ fn opens(field: &[u8]) -> bool
 }
 
 // The number that digits write.
+#[tactic(auto, using(crate::proofs::Plain::reading_past))]
 fn digits(field: &[u8]) -> Option<u16>
     ensures { result ≡ digits_of field.now }
 {
-    let mut value: u32 = 0;
+    let mut value: u16 = 0;
     for byte in field {
         if !byte.is_ascii_digit() {
             return None;
         }
-        value = value * 10 + (*byte - b'0') as u32;
-        if value > LARGEST {
-            return None;
-        }
+        value = value.checked_mul(10)?.checked_add(u16::from(*byte - b'0'))?;
     }
-    Some(value as u16)
+    Some(value)
 }

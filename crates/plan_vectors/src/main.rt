@@ -3,10 +3,10 @@
 // byte of that hexadecimal number.
 #![tactic(auto)]
 
-ghost use Rattle.std.specs.Prelude.{◌<◌};
+ghost use Rattle.std.specs.Prelude.{◌<◌, length};
+ghost use Rattle.std.specs.Iterator.{at_most};
 
 use channel_plan::report_on;
-use std::alloc::{AllocError, Global};
 use std::io::{BufRead, BufReader};
 
 // The value of a hexadecimal digit.
@@ -20,28 +20,27 @@ fn digit(byte: u8) -> u8
     }
 }
 
-// The bytes that the text stands for.
-fn unescaped(heap: Global, text: &[u8]) -> Result<Vec<u8>, AllocError> {
-    let mut bytes = Vec::new(heap);
-    let mut rest = text;
-    for _ in 0..text.len() {
-        match rest {
-            [] => break,
-            [b'\\', b'n', after @ ..] => {
-                bytes.push(10)?;
-                rest = after;
-            }
-            [b'\\', b'x', high, low, after @ ..] => {
-                bytes.push(digit(*high) * 16 + digit(*low))?;
-                rest = after;
-            }
-            [byte, after @ ..] => {
-                bytes.push(*byte)?;
-                rest = after;
-            }
-        }
+// An iterator over the bytes that a text stands for, where this much of it is left.
+#[derive(Drop)]
+struct Unescaped<'a> {
+    rest: &'a [u8],
+}
+
+impl Iterator for Unescaped<'_> {
+    type Item = u8;
+
+    ghost remaining = { λ s. at_most (length s.rest.now) };
+
+    fn next(&mut self) -> Option<u8> {
+        let (byte, rest) = match self.rest {
+            [] => return None,
+            [b'\\', b'n', rest @ ..] => (b'\n', rest),
+            [b'\\', b'x', high, low, rest @ ..] => (digit(*high) * 16 + digit(*low), rest),
+            [byte, rest @ ..] => (*byte, rest),
+        };
+        self.rest = rest;
+        Some(byte)
     }
-    Ok(bytes)
 }
 
 fn run(rt: &HostRuntime) -> anyhow::Result<()> {
@@ -49,7 +48,10 @@ fn run(rt: &HostRuntime) -> anyhow::Result<()> {
     for line in BufReader::new(heap, rt.stdin())?.lines(heap) {
         let line = line?;
         if let Some(text) = line.as_str().strip_prefix("file ") {
-            let file = unescaped(heap, text.as_bytes())?;
+            let escaped = Unescaped {
+                rest: text.as_bytes(),
+            };
+            let file: Vec<u8> = escaped.collect(heap)?;
             rt.println(line.as_str())?;
             rt.print(report_on(heap, file.as_slice())?)?;
         }

@@ -6,39 +6,37 @@ ghost use Rattle.channel_plan.specs.Outcomes.{answer, left};
 use super::Draft;
 use crate::rate::Rate;
 use crate::refusal::RowRefusal;
-use crate::row::Assignment;
-use crate::table;
+use crate::row::{self, Assignment};
+use crate::table::Table;
 
 impl Draft {
     /// A draft with no row.
     pub fn new() -> Draft
-        ensures { result.table ≡ replicate 80 None }
+        ensures { result.table.entries ≡ replicate 80 None }
     {
-        Draft { table: [None; 80] }
+        Draft {
+            table: Table::new(),
+        }
     }
 
     /// Adds a row, or refuses it and leaves the draft.
     pub fn add(&mut self, channel: u16, rate: u16, first: u16) -> Result<(), RowRefusal>
-        ensures answer { result ≡ answer (with_row self.old.table channel rate first) }
-        ensures left { self.new.table ≡ left (with_row self.old.table channel rate first) self.old.table }
+        ensures answer { result ≡ answer (with_row self.old.table.entries channel rate first) }
+        ensures left { self.new.table.entries ≡ left (with_row self.old.table.entries channel rate first) self.old.table.entries }
     {
-        if channel == 0 || channel > 80 {
+        if !row::is_channel(channel) {
             return Err(RowRefusal::NoChannel);
         }
-        let Some(rate) = Rate::from_bits(rate) else {
-            return Err(RowRefusal::UnknownRate);
-        };
+        let rate = Rate::try_from(rate)?;
         if first >= rate.period() {
             return Err(RowRefusal::FirstSlot);
         }
-        if let Some(_) = table::assigned_to(&self.table, channel) {
+        if self.table.assigned(channel).is_some() {
             return Err(RowRefusal::ChannelPresent);
         }
         let new = Assignment { rate, first };
-        if let Some(refusal) = table::conflict_with(&self.table, new) {
-            return Err(refusal);
-        }
-        self.table[channel as usize - 1] = Some(new);
+        self.table.admits(new)?;
+        self.table.assign(channel, new);
         Ok(())
     }
 }

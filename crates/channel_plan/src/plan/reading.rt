@@ -1,11 +1,11 @@
 // Making a plan, and reading it.
 ghost use Rattle.std.specs.Prelude.{◌≡◌, ℕ, ◌<◌, ◌≤◌, IfSome};
-ghost use Rattle.channel_plan.specs.Tables.{NextRow, OwnerIs, owner_of, row_of};
+ghost use Rattle.channel_plan.specs.Entries.{NextRow, row_of};
+ghost use Rattle.channel_plan.specs.Tables.{OwnerIs, owner_of};
 
 use super::Plan;
 use crate::draft::Draft;
 use crate::row::Row;
-use crate::table;
 
 impl Draft {
     /// Seals the draft, which is used up.
@@ -13,7 +13,7 @@ impl Draft {
         ensures { result.table ≡ self.table }
     {
         let table = self.table;
-        let owners = table::owners_of(&table);
+        let owners = table.owners();
         Plan { table, owners }
     }
 }
@@ -34,23 +34,16 @@ impl Plan {
 
     /// The row of a channel.
     pub fn row(&self, channel: u16) -> Option<Row>
-        ensures { result ≡ row_of self.now.table channel }
+        ensures { result ≡ row_of self.now.table.entries channel }
     {
-        match table::assigned_to(&self.table, channel) {
-            Some(assignment) => Some(Row {
-                channel,
-                rate: assignment.rate,
-                first: assignment.first,
-            }),
-            None => None,
-        }
+        self.table.row(channel)
     }
 
     /// The row of the lowest channel above this one.
     pub fn row_after(&self, channel: u16) -> Option<Row>
-        ensures next { NextRow self.now.table channel result }
+        ensures next { NextRow self.now.table.entries channel result }
         ensures above { IfSome result (λ row. (channel < row.channel) × (row.channel ≤ 80)) }
     {
-        table::next_row(&self.table, channel)
+        self.table.row_after(channel)
     }
 }

@@ -1,19 +1,16 @@
-use Rattle.std.proofs.Common.{ap, arith}
+use Rattle.std.proofs.Common.{ap}
 use Rattle.plan_text.specs.Pieces.{three}
-use Rattle.plan_text.proofs.Cuts.{fields_one, length_split, three_short, three_parts, three_long}
+use Rattle.plan_text.proofs.Cuts.{fields_one, three_short, three_parts, three_long}
 use Rattle.plan_text.proofs.text.three_fields.Goals as goal
 
-pub returns-in_default : goal.returns-in_default
-returns-in_default c = record { parts = ap three (fields_one c.args.line.now c.in_default.ensures); long = tt }
+pub returns-in_err-left-clause-parts : goal.returns-in_err-left-clause-parts
+returns-in_err-left-clause-parts c = rw c.from_residual.ensures (ap three (fields_one c.args.line.now c.in_err-left.ensures))
 
-pub returns-in_default-split_once : goal.returns-in_default-split_once
-returns-in_default-split_once c = record { parts = three_short c.args.line.now _ _ c.in-Some.ensures c.in_default-split_once.ensures; long = tt }
+pub returns-in_err-middle-clause-parts : goal.returns-in_err-middle-clause-parts
+returns-in_err-middle-clause-parts c = rw c.from_residual-in_err-middle.ensures (three_short c.args.line.now _ _ c.in_ok-left.ensures c.in_err-middle.ensures)
 
-pub returns-in-Some-split_once-2 : goal.returns-in-Some-split_once-2
-returns-in-Some-split_once-2 c = record { parts = three_long c.args.line.now _ _ c.in-Some.ensures _ _ c.in-Some-split_once.ensures _ _ c.in-Some-split_once-2.ensures; long = tt }
+pub returns-in-Some-clause-parts : goal.returns-in-Some-clause-parts
+returns-in-Some-clause-parts c = three_long c.args.line.now _ _ c.in_ok-left.ensures _ _ c.in_ok-middle.ensures _ _ c.in-Some.ensures
 
-pub returns-in-None : goal.returns-in-None
-returns-in-None c = record {
-  parts = three_parts c.args.line.now _ _ c.in-Some.ensures _ _ c.in-Some-split_once.ensures c.in-None.ensures;
-  long = omega (arith, length_split 44 c.args.line.now _ _ c.in-Some.ensures, length_split 44 _ _ _ c.in-Some-split_once.ensures);
-}
+pub returns-in-None-clause-parts : goal.returns-in-None-clause-parts
+returns-in-None-clause-parts c = three_parts c.args.line.now _ _ c.in_ok-left.ensures _ _ c.in_ok-middle.ensures c.in-None.ensures

@@ -1,30 +1,26 @@
-use Rattle.std.proofs.Common.{sym, ap, ◌∙◌, arith}
+use Rattle.std.proofs.Common.{Ok, Err, sym, ap, ◌∙◌, ◌≡◌, rules}
+use Rattle.channel_plan.specs.Files.{with_line}
 use Rattle.channel_plan.specs.Outcomes.{answer, left}
-use Rattle.plan_text.proofs.Cuts.{length_split}
-use Rattle.channel_plan.proofs.Loading.{lines_end, line_more, line_refused}
+use Rattle.std.proofs.lemmas.Result.{err_from_is_err_and}
+use Rattle.channel_plan.proofs.Loading.{lines_end, line_taken, line_stopped}
 use Rattle.channel_plan.proofs.draft.Draft.add_lines.Goals as goal
 
-pub add_line-requires : goal.add_line-requires
-add_line-requires c = omega (arith, length_split 10 c.loop-row.rest.now _ _ c.in-Some.ensures, c.loop-row.invariant)
+pub returns-in_err-add_line : goal.returns-in_err-add_line
+returns-in_err-add_line c =
+    let e = c.in_err-add_line.field-0.0 in
+    let refused : Err e ≡ answer (with_line c.args.header c.loop-line.self.table.entries c.in-Some.line.number c.in-Some.line.byte c.in-Some.line.text.now) = search rules in
+    let all = line_stopped c.args.header c.loop-line.self.table.entries c.loop-line.line-iterator c.next.new.self c.in-Some.line c.in-Some.ensures.steps e refused in
+    let p = err_from_is_err_and c.from_residual.result c.from_residual.ensures.1 in
+    rw (p.1, p.2) (record { answer = ap answer (sym all ∙ c.loop-line.invariant); left = tt })
 
-pub returns-in-Err : goal.returns-in-Err
-returns-in-Err c =
-    let all = line_refused c.args.header c.loop-row.self.table c.loop-row.line c.loop-row.start c.loop-row.rest.now _ _ c.in-Some.ensures c.in-Err.refusal c.in-Err.ensures.answer in
-    record { answer = ap answer (sym all ∙ c.loop-row.invariant.2); left = tt }
-
-pub loop-row-smaller : goal.loop-row-smaller
-loop-row-smaller c = omega (arith, length_split 10 c.loop-row.rest.now _ _ c.in-Some.ensures)
-
-pub loop-row-preserved : goal.loop-row-preserved
-loop-row-preserved c =
-    let long = length_split 10 c.loop-row.rest.now _ _ c.in-Some.ensures in (
-      omega (arith, long, c.loop-row.invariant),
-      omega (arith, c.loop-row.invariant),
-      line_more c.args.header c.loop-row.self.table c.loop-row.line c.loop-row.start c.loop-row.rest.now _ _ c.in-Some.ensures c.add_line.new.self.table c.in-Ok.ensures.answer c.add_line.ensures.left
-          ∙ c.loop-row.invariant.2,
-    )
+pub loop-line-preserved : goal.loop-line-preserved
+loop-line-preserved c =
+    let taken : Ok tt ≡ answer (with_line c.args.header c.loop-line.self.table.entries c.in-Some.line.number c.in-Some.line.byte c.in-Some.line.text.now) = search rules in
+    line_taken c.args.header c.loop-line.self.table.entries c.loop-line.line-iterator c.next.new.self c.in-Some.line c.in-Some.ensures.steps c.add_line.new.self.table.entries taken c.add_line.ensures.left
+    ∙ c.loop-line.invariant
 
 pub returns : goal.returns
 returns c =
-    let all = sym (lines_end c.args.header c.loop-row.self.table c.loop-row.line c.loop-row.start c.loop-row.rest.now c.in_default.ensures) ∙ c.loop-row.invariant.2 in
-    record { answer = ap answer all; left = ap (λ o. left o c.args.self.now.table) all }
+    let i = c.loop-line.line-iterator in
+    let all = sym (lines_end c.args.header c.loop-line.self.table.entries i.number i.byte i.rest.now c.in-None.ensures.steps) ∙ c.loop-line.invariant in
+    record { answer = ap answer all; left = ap (λ o. left o c.args.self.now.table.entries) all }

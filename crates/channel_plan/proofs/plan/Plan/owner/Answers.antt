@@ -1,6 +1,7 @@
-use Rattle.std.proofs.Common.{◌≡◌, ◌<◌, ◌≤◌, length, get_or, IfSome, None, sym, ◌∙◌, subst, rules}
+use Rattle.std.proofs.Common.{◌≡◌, ◌<◌, ◌≤◌, get_or, IfSome, None, sym, ◌∙◌, subst, rules}
 use Rattle.std.proofs.lemmas.Bool.{cond-true, lt-ltb}
-use Rattle.channel_plan.specs.Tables.{OwnerIs, owner_from}
+use Rattle.channel_plan.specs.Entries.{owner_from}
+use Rattle.channel_plan.specs.Tables.{OwnerIs}
 use Rattle.channel_plan.proofs.Owners.{owner_is, owner_known}
 use Rattle.channel_plan.proofs.plan.Plan.owner.Goals as goal
 
@@ -9,10 +10,9 @@ returns-then-slot-lt240 c =
     let p = c.args.self.now in
     let s = c.args.slot in
     let framed : s < 240 = search rules in
-    let long : length p.table ≡ 80 = search rules in
-    let is : get_or p.owners s None ≡ owner_from 1 p.table s = p.owned s framed ∙ cond-true _ _ _ (lt-ltb s 240 framed) in
+    let is : get_or p.owners s None ≡ owner_from 1 p.table.entries s = p.owned s framed ∙ cond-true _ _ _ (lt-ltb s 240 framed) in
     record {
       value = p.owned s framed;
-      exact = λ k. subst (λ o. OwnerIs p.table s o k) (sym is) (owner_is p.table long p.apart s framed k);
-      known = subst (λ o. IfSome o (λ k. (0 < k) × (k ≤ 80))) (sym is) (owner_known p.table s long);
+      exact = λ k. subst (λ o. OwnerIs p.table s o k) (sym is) (owner_is p.table s framed k);
+      known = subst (λ o. IfSome o (λ k. (0 < k) × (k ≤ 80))) (sym is) (owner_known p.table.entries s p.table.long);
     }
