@@ -47,6 +47,7 @@ fn next_check(mode: Mode, frame: &[u8]) -> u16
 
 impl<B: Bank> Station<B> {
     /// Sends a frame into the front of the buffer, and answers how many bits it has; or refuses, and leaves everything.
+    // The buffer is the caller's, and the bytes beyond the frame stay, since nothing is allocated.
     pub fn send(&mut self, justification: i8, buffer: &mut [u8]) -> Result<usize, SendRefusal>
         ensures answer { result ≡ sent_answer (judged self.old.line.mode justification buffer.old) }
         ensures buffer { buffer.new ≡ sent_buffer B.meaning (owner_of self.old.plan.table) (B.account self.old.bank) self.old.line (judged self.old.line.mode justification buffer.old) buffer.old }

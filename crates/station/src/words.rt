@@ -18,6 +18,7 @@ const FILLER: Envelope = Envelope {
 // The word of a slot that nobody owns.
 const UNOWNED: u16 = 1023;
 
+// Plan and bank are handed in one by one: the plan is only read, so no clause has to say that it stays.
 impl Line {
     // The word of one slot, whose owner is looked up once for its ten bits.
     fn send_slot<B: Bank>(&mut self, plan: &Plan, bank: &mut B, slot: u16) -> u16
