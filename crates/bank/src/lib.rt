@@ -32,8 +32,6 @@ pub trait Bank {
     // What each call answers and leaves.
     ghost meaning: { Meaning };
 
-    ghost laws: { Laws meaning };
-
     /// Hands an envelope in for the line.
     fn offer(&mut self, channel: u16, e: Envelope) -> bool
         ensures answer { result ≡ (meaning.offered channel (account self.old channel) e).0 }
@@ -52,6 +50,8 @@ pub trait Bank {
     /// Hands an envelope in from the line.
     fn give(&mut self, channel: u16, e: Envelope)
         ensures left { account self.new ≡ after_give meaning channel e (account self.old) };
+
+    ghost laws: { Laws meaning };
 }
 
 /// The channels are 1 to this number.

@@ -34,6 +34,28 @@ module _ {T : Type 0} where
   pub room_short : (r : Ring) (m : List T) → reaches r (length m) ≡ false → has_room (queue r m) ≡ false
   room_short r m t = ap has_room (queue_short r m t)
 
+  -- how many wait
+  pub length_long : (r : Ring) (m : List T) → reaches r (length m) ≡ true → length (queue r m).waiting ≡ r.waiting
+  length_long r m t = ap (λ q. length q.waiting) (queue_long r m t) ∙ length_held r m (leb-true (r.base + r.places) (length m) t)
+
+  pub length_short : (r : Ring) (m : List T) → reaches r (length m) ≡ false → length (queue r m).waiting ≡ 0
+  length_short r m t = ap (λ q. length q.waiting) (queue_short r m t)
+
+  pub length_queue : (r : Ring) (m : List T) → length (queue r m).waiting ≤ r.places
+  length_queue r m = at (reaches r (length m)) refl
+    where
+      at : (b : Bool) → reaches r (length m) ≡ b → length (queue r m).waiting ≤ r.places
+      at true t = let f = r.fits in omega (arith, length_long r m t)
+      at false t = omega (arith, length_short r m t)
+
+  -- something waits only where the memory reaches
+  pub some_wait : (r : Ring) (m : List T) → 0 < length (queue r m).waiting → (reaches r (length m) ≡ true) × (0 < r.waiting)
+  some_wait r m lt = at (reaches r (length m)) refl
+    where
+      at : (b : Bool) → reaches r (length m) ≡ b → (reaches r (length m) ≡ true) × (0 < r.waiting)
+      at true t = (t, omega (arith, length_long r m t))
+      at false t = absurd (omega (arith, length_short r m t))
+
   pub put_refused : (x : T) (r : Ring) (m : List T) → has_room (queue r m) ≡ false → Put x r m false r m
   put_refused x r m t =
       record {

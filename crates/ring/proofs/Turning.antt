@@ -1,6 +1,7 @@
 -- A list read from a place on and then from its start, and what a write to one place does to it.
-use Rattle.std.proofs.Common.{◌≡◌, ℕ, suc, ◌+◌, ◌-◌, ◌<◌, ◌≤◌, ltb, List, [], ◌∷◌, ◌++◌, length, get_or, take, drop, set, sym, ap, ◌∙◌, ⊎_elim, append_assoc, arith, length-append, length-drop, length-take, drop-set-lt}
-use lib.Seq.{take-set-lt, take-set-le, drop-set-add}
+use Rattle.std.proofs.Common.{◌≡◌, ℕ, suc, ◌+◌, ◌-◌, ◌<◌, ◌≤◌, ltb, List, [], ◌∷◌, ◌++◌, length, get_or, take, drop, set, min, sym, refl, ap, ◌∙◌, ap₂, ⊎_elim, append_assoc, arith, length-append, length-drop, length-take, drop-set-lt}
+use lib.Seq.{take-set-lt, take-set-le, drop-set-add, take-append-add}
+use Rattle.std.specs.List.{slice_get}
 use Rattle.std.proofs.lemmas.List.{set-append_left, set-append_right, get_or_append_left, get_or-append_right, get_or-take, get_or-drop, take_more_set, drop_more, take_more, drop_all, take-append-le, length-take-le, take_all, append-nil}
 use Rattle.std.proofs.lemmas.Bool.{cases_lt, cond-true, cond-false, lt-ltb, le-ltb}
 use Rattle.ring.specs.Held.{part, turned, place_at}
@@ -116,3 +117,32 @@ module _ {T : Type 0} where
       let n : length (part b p m) ≡ p = length_part b p m fit in
       let t : length (turned h (part b p m)) ≡ length (part b p m) = length_turned h (part b p m) (omega arith) in
       length-take-le w (turned h (part b p m)) (omega arith)
+
+  -- what stands first among xs and then ys, where ys has something only if xs has
+  pub first_of_two : (xs ys : List T) → (length xs ≡ 0 → length ys ≡ 0) → slice_get xs 0 ≡ slice_get (xs ++ ys) 0
+  first_of_two [] [] f = refl
+  first_of_two [] (y ∷ ys) f = absurd (omega (arith, f refl))
+  first_of_two (x ∷ xs) ys f = refl
+
+  take_two : (w : ℕ) (xs ys : List T) → take (min w (length xs)) xs ++ take (w - min w (length xs)) ys ≡ take w (xs ++ ys)
+  take_two w xs ys =
+      ⊎_elim
+      (λ (l : w < length xs).
+      let e : min w (length xs) ≡ w = omega arith in
+      let z : w - w ≡ 0 = omega arith in
+      ap (λ n. take n xs ++ take (w - n) ys) e ∙ ap (λ n. take w xs ++ take n ys) z ∙ append-nil (take w xs) ∙ sym (take-append-le w xs ys (omega arith)))
+      (λ (g : length xs ≤ w).
+      let e : min w (length xs) ≡ length xs = omega arith in
+      let i : length xs + (w - length xs) ≡ w = omega arith in
+      ap (λ n. take n xs ++ take (w - n) ys) e
+      ∙ ap (λ l. l ++ take (w - length xs) ys) (take_all (length xs) xs (omega arith))
+      ∙ sym (take-append-add xs ys (w - length xs))
+      ∙ ap (λ n. take n (xs ++ ys)) i)
+      (cases_lt w (length xs))
+
+  -- what waits, in two runs: up to the last place, and then from the first place on
+  pub runs_list : (h w e : ℕ) (s early late : List T) → early ≡ drop h s → late ≡ take h s → e ≡ min w (length early) → take e early ++ take (w - e) late ≡ take w (turned h s)
+  runs_list h w e s early late x y z =
+      ap (λ n. take n early ++ take (w - n) late) z
+      ∙ take_two w early late
+      ∙ ap₂ (λ (a b : List T). take w (a ++ b)) x y
