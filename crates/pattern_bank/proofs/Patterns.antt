@@ -1,5 +1,5 @@
 -- What the calls make of the account of two registers.
-use Rattle.std.proofs.Common.{◌≡◌, ℕ, zero, suc, ◌+◌, ◌-◌, ◌*◌, true, false, cond, List, [], ◌∷◌, ◌++◌, length, get_or, take, set, Some, None, Option, sym, refl, ap, ◌∙◌, arith}
+use Rattle.std.proofs.Common.{◌≡◌, ℕ, zero, suc, ◌+◌, ◌-◌, ◌*◌, true, false, cond, List, [], ◌∷◌, ◌++◌, length, take, Some, None, Option, sym, refl, ap, ◌∙◌, arith}
 use Rattle.std.proofs.lemmas.List.{take_at, drop_at, get_or-append_right, length-take-le}
 use Rattle.std.proofs.lemmas.Bool.{cond-true, eq-eqb}
 use Rattle.bank.specs.declared.Envelope.{Envelope}
@@ -11,7 +11,7 @@ use Rattle.std.specs.Fn.{Once, FnOnceReturnsAtMut}
 use Rattle.std.proofs.lemmas.Option.{get_or_from_slice_get}
 use Rattle.pattern_bank.specs.Called.{Called}
 use Rattle.pattern_bank.specs.declared.channel.Channel.{Channel}
-use Rattle.pattern_bank.specs.Register.{stages, all_ones, next_bit, shifted, bits_from, octet_from}
+use Rattle.pattern_bank.specs.Register.{all_ones, next_bit, shifted, bits_from, octet_from}
 use Rattle.pattern_bank.specs.Pattern.{Pattern, fresh, marked, take_from, give_to}
 use Rattle.pattern_bank.specs.Meaning.{as_account, as_pattern, pattern_each, pattern_meaning}
 use Rattle.pattern_bank.specs.Standing.{pattern_of, FirstTakes, given_back, looped, LoopedBack}

@@ -10,9 +10,9 @@ use bank::Envelope;
 // The register that take reads, the register that give compares with, and how many envelopes were wrong.
 #[derive(Clone, Copy)]
 pub struct Channel {
-    sending: Register,
-    comparing: Register,
-    wrong: u8,
+    pub(super) sending: Register,
+    pub(super) comparing: Register,
+    pub(super) wrong: u8,
 }
 
 // An octet with S = 1.

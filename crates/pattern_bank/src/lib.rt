@@ -48,7 +48,7 @@ impl Bank for PatternBank {
 
     ghost laws = { pattern_laws };
 
-    fn offer(&mut self, channel: u16, _e: Envelope) -> bool {
+    fn offer(&mut self, channel: u16, _: Envelope) -> bool {
         self.on_channel(channel, |c| *c = Channel::FRESH).is_some()
     }
 

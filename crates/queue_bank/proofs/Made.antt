@@ -2,7 +2,7 @@
 use Rattle.std.proofs.Common.{◌≡◌, ℕ, zero, suc, ◌+◌, ◌<◌, ◌≤◌, List, get_or, sym, subst, ⊎_elim, arith}
 use Rattle.std.proofs.lemmas.Bool.{cases_lt}
 use Rattle.std.specs.Fn.{Mut, Called}
-use Rattle.std.specs.Array.{IsFromFnResultFrom, IsElementAt}
+use Rattle.std.specs.Array.{IsFromFnResultFrom}
 
 module _ {F B : Type 0} {g : Mut F (ℕ × Unit {0}) B} (J : F → Type 0) (P : ℕ → B → Type 0) (step : (f : F) (i : ℕ) (y : B) (q : F) → J f → Called g f (i, tt) y q → P i y × J q) where
   pub each_made : (n : ℕ) (f : F) (ys : List B) (i : ℕ) → J f → IsFromFnResultFrom g f ys i n → (k : ℕ) (d : B) → i ≤ k → k < i + n → P k (get_or ys k d)

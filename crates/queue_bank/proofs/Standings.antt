@@ -1,6 +1,6 @@
 -- The accounts of all 80 channels, and what a call on one of them does to them.
 use Rattle.std.proofs.Common.{◌≡◌, ℕ, ◌+◌, ◌-◌, ◌*◌, ◌<◌, ◌≤◌, true, false, ◌⊎◌, List, get_or, set, Option, Some, None, sym, ap, ◌∙◌, ap₂, subst, inl, inr, ⊎_elim, arith}
-use Rattle.std.proofs.lemmas.Bool.{cond-true, cases_lt}
+use Rattle.std.proofs.lemmas.Bool.{cases_lt}
 use Rattle.bank.specs.declared.Envelope.{Envelope}
 use Rattle.bank.specs.Meaning.{Accounts, is_channel, put_at}
 use Rattle.bank.specs.Channels.{table}

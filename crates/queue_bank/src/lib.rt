@@ -13,7 +13,6 @@ ghost use Rattle.queue_bank.specs.Standing.{account_of, memory_of, besides, plac
 ghost use Rattle.queue_bank.specs.Called.{Found, StaysPut, Called};
 
 mod channel;
-mod queues;
 mod rows;
 
 use bank::{Bank, CHANNELS, Envelope, index_of};
@@ -106,7 +105,7 @@ impl<'a> Bank for QueueBank<'a> {
         ensures left { account_of self.new ≡ after_offer queue_meaning channel e (account_of self.old) }
         ensures outside { besides channel self.new ≡ besides channel self.old }
     {
-        self.on_channel(channel, |c, memory| c.offer(memory, e))
+        self.on_channel(channel, |c, memory| c.outgoing.put(memory, e))
             .unwrap_or(false)
     }
 
@@ -115,7 +114,7 @@ impl<'a> Bank for QueueBank<'a> {
         ensures left { account_of self.new ≡ after_collect queue_meaning channel (account_of self.old) }
         ensures kept { memory_of self.new ≡ memory_of self.old }
     {
-        self.on_channel(channel, |c, memory| c.collect(memory))
+        self.on_channel(channel, |c, memory| c.incoming.take(memory))
             .flatten()
     }
 
@@ -124,7 +123,7 @@ impl<'a> Bank for QueueBank<'a> {
         ensures left { account_of self.new ≡ after_take queue_meaning channel (account_of self.old) }
         ensures kept { memory_of self.new ≡ memory_of self.old }
     {
-        self.on_channel(channel, |c, memory| c.take(memory))
+        self.on_channel(channel, |c, memory| c.outgoing.take(memory))
             .flatten()
     }
 

@@ -11,7 +11,7 @@ returns c =
     let n = c.args.channel in
     let len : length c.args.self.now.channels ≡ 80 = search rules in
     let all =
-    called_means n c.args.self.now.channels c.on_channel.new.self.channels len is_some (λ a. pattern_meaning.offered n a c.args._e) c.on_channel.result c.on_channel.ensures (λ a. pattern_laws.no_offer n a c.args._e)
+    called_means n c.args.self.now.channels c.on_channel.new.self.channels len is_some (λ a. pattern_meaning.offered n a c.args.arg3) c.on_channel.result c.on_channel.ensures (λ a. pattern_laws.no_offer n a c.args.arg3)
     (λ f x l t k.
     let left : pattern_of l ≡ fresh = search rules in
     cond-true _ _ _ t ∙ ap (λ p. (true, as_account p)) (sym left)) in

@@ -1,7 +1,5 @@
-use Rattle.std.proofs.Common.{◌≡◌, ◌-◌, ◌*◌, ◌<◌, length, get_or, set, sym, ap, ◌∙◌, refl, arith, length-set, rules, Some}
-use Rattle.std.specs.List.{slice_get}
+use Rattle.std.proofs.Common.{◌≡◌, ◌-◌, ◌<◌, length, get_or, set, sym, ap, ◌∙◌, refl, arith, length-set}
 use Rattle.std.proofs.lemmas.Option.{slice_get_read}
-use Rattle.bank.specs.Meaning.{index_of}
 use Rattle.bank.proofs.Tables.{index_is, channel_low, channel_high}
 use Rattle.queue_bank.specs.Called.{Answers}
 use Rattle.queue_bank.proofs.Channels.{laid_set}

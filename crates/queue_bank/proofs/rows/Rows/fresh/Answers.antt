@@ -1,4 +1,4 @@
-use Rattle.std.proofs.Common.{◌≡◌, ◌*◌, length, get_or, refl, arith, rules}
+use Rattle.std.proofs.Common.{◌≡◌, ◌*◌, refl, arith, rules}
 use Rattle.queue_bank.specs.Standing.{FreshChannel}
 use Rattle.queue_bank.proofs.Made.{each_made}
 use Rattle.queue_bank.proofs.rows.Rows.fresh.Goals as goal
