@@ -6,7 +6,7 @@ use Rattle.bank.specs.declared.Envelope.{Envelope}
 use Rattle.bank.specs.Meaning.{Accounts, is_channel, put_at}
 use Rattle.bank.specs.Channels.{table, on_each}
 use Rattle.bank.proofs.Tables.{channel_low, channel_high, put_at_left, table_set, table_at}
-use denote.Ref.{MutBor}
+use Rattle.std.specs.Borrow.{MutBor}
 use Rattle.std.specs.Fn.{Once, FnOnceReturnsAtMut}
 use Rattle.std.proofs.lemmas.Option.{get_or_from_slice_get}
 use Rattle.pattern_bank.specs.Called.{Called}

@@ -13,7 +13,7 @@ use Rattle.queue_bank.specs.Account.{as_account, as_queues}
 use Rattle.queue_bank.specs.Standing.{queues_of, Step}
 use Rattle.queue_bank.proofs.Accounts.{queues_account}
 use Rattle.queue_bank.specs.Called.{FoundAt, Found, Answers, Called}
-use denote.Ref.{MutBor}
+use Rattle.std.specs.Borrow.{MutBor}
 use Rattle.std.specs.Fn.{Once}
 use Rattle.std.proofs.lemmas.Option.{get_or_from_slice_get}
 use Rattle.queue_bank.proofs.Channels.{queues_apart}

@@ -2,7 +2,7 @@
 use Rattle.std.specs.Prelude.{◌≡◌, ℕ, ◌-◌, true, false, List, Some, None, Option, slice_set}
 use Rattle.std.specs.List.{slice_get}
 use Rattle.std.specs.Fn.{Once}
-use denote.Ref.{MutBor}
+use Rattle.std.specs.Borrow.{MutBor}
 use Rattle.bank.specs.declared.Envelope.{Envelope}
 use Rattle.bank.specs.Meaning.{is_channel}
 use Rattle.queue_bank.specs.declared.channel.Channel.{Channel}

@@ -28,6 +28,7 @@ pub const MEMORY: usize = 2 * PLACES * CHANNELS;
 /// For each of 80 channels 64 places each way, first in, first out. Over less memory each queue has 0 places.
 #[derive(Drop)]
 pub struct QueueBank<'a> {
+    // Lent by the caller, since the core allocates nothing.
     memory: &'a mut [Envelope],
     rows: Rows,
 }
@@ -76,6 +77,7 @@ impl<'a> QueueBank<'a> {
     }
 
     // Calls `call` on a channel over the memory, and answers what it answered; nothing outside 1 to 80.
+    // The channel is a copy while the memory is lent, and has to lie where it lay.
     fn on_channel<R, F: FnOnce(&mut Channel, &mut [Envelope]) -> R>(
         &mut self,
         channel: u16,

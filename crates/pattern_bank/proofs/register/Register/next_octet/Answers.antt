@@ -1,12 +1,6 @@
-use Rattle.std.proofs.Common.{◌≡◌, suc, ◌+◌, ◌-◌, ◌*◌, ◌^◌, ◌≤◌, sym, ap, ◌∙◌, ap₂, arith, pow_mono, pow-add, rules}
+use Rattle.std.proofs.Common.{◌≡◌, suc, ◌+◌, ◌-◌, ◌*◌, ◌^◌, sym, ap, ◌∙◌, ap₂, arith, pow-add}
 use Rattle.pattern_bank.specs.Register.{stages, bits_from}
 use Rattle.pattern_bank.proofs.register.Register.next_octet.Goals as goal
-
-pub overflow_mul-octet : goal.overflow_mul-octet
-overflow_mul-octet c = let p : 2 ^ c.loop.counter ≤ 2 ^ 7 = pow_mono {j = 7} (omega arith) in search rules
-
-pub overflow_add-octet : goal.overflow_add-octet
-overflow_add-octet c = let p : 2 ^ c.loop.counter ≤ 2 ^ 7 = pow_mono {j = 7} (omega arith) in search rules
 
 pub loop-preserved : goal.loop-preserved
 unfolding bits_from
@@ -20,9 +14,6 @@ loop-preserved c =
           ∙ sym (ap (λ n. bits_from n o (stages c.loop.self.bits)) more)
           ∙ c.loop.invariant.1,
     )
-
-pub overflow_cast-result : goal.overflow_cast-result
-overflow_cast-result c = let p : 2 ^ c.loop.counter ≤ 2 ^ 8 = pow_mono {j = 8} (omega arith) in search rules
 
 pub returns : goal.returns
 unfolding bits_from
