@@ -60,6 +60,7 @@ pub trait Bank {
     fn give(&mut self, channel: u16, e: Envelope)
         ensures left { account self.new ≡ after_give meaning channel e (account self.old) };
 
+    // An offer answered no and a collect answered nothing leave the account, and so does every call outside 1 to 80.
     ghost laws: { Laws meaning };
 }
 

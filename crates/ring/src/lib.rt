@@ -76,6 +76,7 @@ impl Ring {
     }
 
     /// Adds `x` as the newest, or answers no where every place is full.
+    // Yes or no, since that is what a bank's offer answers.
     pub fn put<T: Copy>(&mut self, memory: &mut [T], x: T) -> bool
         ensures { Put x self.old memory.old result self.new memory.new }
     {
