@@ -4,11 +4,8 @@ use Rattle.std.proofs.lemmas.Bool.{cond-true, le-leb}
 use Rattle.ring.specs.Queue.{has_room}
 use Rattle.ring.specs.Held.{part, turned, reaches, queue}
 use Rattle.ring.proofs.Turning.{put_list}
-use Rattle.ring.proofs.Rings.{queue_long, put_refused, around_set}
+use Rattle.ring.proofs.Rings.{queue_long, around_set}
 use Rattle.ring.proofs.shape.Ring.put.Goals as goal
-
-pub returns-then-not-has_room : goal.returns-then-not-has_room
-returns-then-not-has_room g c = put_refused c.args.x c.args.self.now c.args.memory.now (sym c.if-not-has_room.ensures.is)
 
 pub returns : goal.returns
 returns g c =
