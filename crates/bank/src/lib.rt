@@ -42,6 +42,7 @@ pub trait Bank {
     ghost meaning: { Meaning };
 
     /// Hands an envelope in for the line.
+    // Yes or no is the rule for an offer.
     fn offer(&mut self, channel: u16, e: Envelope) -> bool
         ensures answer { result ≡ (meaning.offered channel (account self.old channel) e).0 }
         ensures left { account self.new ≡ after_offer meaning channel e (account self.old) };

@@ -27,7 +27,7 @@ impl Register {
         self.bits = self.bits % 256 * 2 + self.next_bit();
     }
 
-    // The octet that the next eight bits make.
+    // The octet that the next eight bits make. Each bit moves the register on, so this is a loop and no fold.
     pub fn next_octet(&mut self) -> u8
         ensures { (result, stages self.new.bits) ≡ octet_from (stages self.old.bits) }
     {

@@ -6,6 +6,7 @@ use super::channel::Channel;
 use bank::CHANNELS;
 use std::array;
 
+// `eighty` is the array's length, which lemmas on rows need.
 #[derive(Drop)]
 pub struct Rows {
     pub(super) channels: [Channel; CHANNELS],
