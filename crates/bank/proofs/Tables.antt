@@ -1,10 +1,10 @@
 -- The accounts of a row of channels after a write to one of them.
-use Rattle.std.proofs.Common.{◌≡◌, ℕ, zero, suc, ◌-◌, ◌<◌, ◌≤◌, true, false, cond, eqb, leb, List, [], ◌∷◌, map, length, get_or, set, sym, refl, ap, ◌∙◌, ⊎_elim, arith}
+use Rattle.std.proofs.Common.{◌≡◌, ℕ, zero, suc, ◌-◌, ◌<◌, ◌≤◌, Bool, true, false, cond, Some, None, eqb, leb, List, [], ◌∷◌, map, length, get_or, set, sym, refl, ap, ◌∙◌, ⊎_elim, arith}
 use mathlib.Core.Path.{fun_ext}
 use lib.ListN.{length-map}
 use Rattle.std.proofs.lemmas.List.{get_or-set_same, get_or-set_other, get_or-map, map-set, get_or_past}
 use Rattle.std.proofs.lemmas.Bool.{cases_eq, cases_lt, cond-true, cond-false, cond_both, eq-eqb, ne_eqb, eqb-true, leb-true, leb-false, and_parts, and_cases}
-use Rattle.bank.specs.Meaning.{Accounts, is_channel, put_at}
+use Rattle.bank.specs.Meaning.{Accounts, is_channel, index_of, put_at}
 use Rattle.bank.specs.Channels.{table, on_each}
 
 pub channel_low : (n : ℕ) → is_channel n ≡ true → 1 ≤ n
@@ -12,6 +12,14 @@ channel_low n t = leb-true 1 n (and_parts (leb 1 n) (leb n 80) t).0
 
 pub channel_high : (n : ℕ) → is_channel n ≡ true → n ≤ 80
 channel_high n t = leb-true n 80 (and_parts (leb 1 n) (leb n 80) t).1
+
+-- the index of a channel's row
+pub index_is : (n i : ℕ) → index_of n ≡ Some i → (is_channel n ≡ true) × (i ≡ n - 1)
+index_is n i = at (is_channel n) refl
+  where
+    at : (b : Bool) → is_channel n ≡ b → cond b (Some (n - 1)) None ≡ Some i → (is_channel n ≡ true) × (i ≡ n - 1)
+    at true t e = (t, cc)
+    at false t e = absurd cc
 
 -- what stands there already
 pub put_at_left : (n : ℕ) (a : List ℕ) (f : Accounts) → a ≡ f n → put_at n a f ≡ f

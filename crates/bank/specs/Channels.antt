@@ -1,6 +1,6 @@
 -- A bank in which all 80 channels behave alike: its meaning, its law and its accounts.
-use Rattle.std.specs.Prelude.{◌≡◌, ℕ, Bool, true, false, cond, List, [], ◌∷◌, map, None, Option, slice_index_or, refl}
-use Rattle.std.proofs.lemmas.Bool.{cond-false}
+use Rattle.std.specs.Prelude.{◌≡◌, ℕ, Bool, false, cond, List, [], ◌∷◌, map, None, Option, slice_index_or, refl}
+use Rattle.std.proofs.lemmas.Bool.{cond-false, cond_both}
 use Rattle.bank.specs.declared.Envelope.{Envelope}
 use Rattle.bank.specs.Meaning.{Accounts, Meaning, Laws, is_channel}
 
@@ -20,15 +20,11 @@ on_channels c = record {
   given = λ n a e. cond (is_channel n) (c.given a e) a;
 }
 
-either : {X : Type 0} (P : X → Type 0) (b : Bool) (x y : X) → P x → P y → P (cond b x y)
-either P true x y p q = p
-either P false x y p q = q
-
 -- the law needs a proof only of the calls on one channel
 pub lawful : (c : Each) → ((a : List ℕ) (e : Envelope) → (c.offered a e).0 ≡ false → (c.offered a e).1 ≡ a) → ((a : List ℕ) → (c.collected a).0 ≡ None → (c.collected a).1 ≡ a) → Laws (on_channels c)
 lawful c refused nothing = record {
-  refused = λ n a e. either (λ (p : Bool × List ℕ). p.0 ≡ false → p.1 ≡ a) (is_channel n) (c.offered a e) (false, a) (refused a e) (λ _. refl);
-  nothing = λ n a. either (λ (p : Option Envelope × List ℕ). p.0 ≡ None → p.1 ≡ a) (is_channel n) (c.collected a) (None, a) (nothing a) (λ _. refl);
+  refused = λ n a e. cond_both (is_channel n) (c.offered a e) (false, a) (λ (p : Bool × List ℕ). p.0 ≡ false → p.1 ≡ a) (λ _. refused a e) (λ _ _. refl);
+  nothing = λ n a. cond_both (is_channel n) (c.collected a) (None, a) (λ (p : Option Envelope × List ℕ). p.0 ≡ None → p.1 ≡ a) (λ _. nothing a) (λ _ _. refl);
   no_offer = λ n a e out. cond-false (is_channel n) (c.offered a e) (false, a) out;
   no_collect = λ n a out. cond-false (is_channel n) (c.collected a) (None, a) out;
   no_take = λ n a out. cond-false (is_channel n) (c.taken a) (None, a) out;

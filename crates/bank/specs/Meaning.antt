@@ -1,5 +1,5 @@
 -- What the calls of a bank answer and leave, and the law that every bank shows.
-use Rattle.std.specs.Prelude.{◌≡◌, ℕ, Bool, false, cond, ◌&&◌, List, None, Option, ◌==◌, nat_le}
+use Rattle.std.specs.Prelude.{◌≡◌, ℕ, ◌-◌, Bool, false, cond, ◌&&◌, List, Some, None, Option, ◌==◌, nat_le}
 use Rattle.bank.specs.declared.Envelope.{Envelope}
 
 -- what stands on each channel
@@ -15,6 +15,10 @@ pub record Meaning : Type 0 where
 
 abbrev pub is_channel : ℕ → Bool
 is_channel n = nat_le 1 n && nat_le n 80
+
+-- where the row of channel n stands among those of all channels
+abbrev pub index_of : ℕ → Option ℕ
+index_of n = cond (is_channel n) (Some (n - 1)) None
 
 -- an offer answered no and a collect answered nothing leave the account; so does every call outside 1 to 80, answered no or nothing
 pub record Laws (m : Meaning) : Type 0 where

@@ -10,10 +10,7 @@ use queue_bank::MEMORY;
 use std::io;
 
 fn main(rt: HostRuntime) -> io::Result<()> {
-    let mut memory = [Envelope {
-        status: false,
-        octet: 0,
-    }; MEMORY];
+    let mut memory = [Envelope::default(); MEMORY];
     let examples = [
         (
             "two rings in one memory, 1000 times round",

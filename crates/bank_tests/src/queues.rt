@@ -12,46 +12,33 @@ fn envelope(k: u16) -> Envelope {
 
 // Offers envelopes on channel 7 and takes as often: whether the first 64 were accepted, waited and came out in order.
 fn pass(bank: &mut QueueBank, offers: u16) -> bool {
-    let mut passed = true;
-    for k in 0..offers {
-        passed = bank.offer(7, envelope(k)) == (k < 64) && passed;
-    }
-    passed = passed && bank.waiting(7) == (offers.min(64), 0);
-    for k in 0..offers {
-        let expected = if k < 64 { Some(envelope(k)) } else { None };
-        passed = bank.take(7) == expected && passed;
-    }
-    passed
+    (0..offers).all(|k| bank.offer(7, envelope(k)) == (k < 64))
+        && bank.waiting(7) == (offers.min(64), 0)
+        && (0..offers).all(|k| bank.take(7) == (k < 64).then(|| envelope(k)))
 }
 
 pub(crate) fn fill(memory: &mut [Envelope]) -> bool {
     let mut bank = QueueBank::new(memory);
-    let mut passed = true;
-    for offers in [0, 1, 63, 64, 65] {
-        passed = pass(&mut bank, offers) && passed;
-    }
-    passed
+    [0, 1, 63, 64, 65]
+        .into_iter()
+        .all(|offers| pass(&mut bank, offers))
 }
 
 pub(crate) fn go_round(memory: &mut [Envelope]) -> bool {
     let mut bank = QueueBank::new(memory);
-    let mut passed = true;
-    for _ in 0..500 {
-        passed = pass(&mut bank, 50) && passed;
-    }
-    passed
+    (0..500).all(|_| pass(&mut bank, 50))
 }
 
-// Gives channel 80 the envelope of code 263.
+// The envelope of code 263.
+const SEVEN: Envelope = Envelope {
+    status: true,
+    octet: 7,
+};
+
+// Gives channel 80 that envelope so often; how many were dropped then.
 fn give(bank: &mut QueueBank, count: u32) -> u16 {
     for _ in 0..count {
-        bank.give(
-            80,
-            Envelope {
-                status: true,
-                octet: 7,
-            },
-        );
+        bank.give(80, SEVEN);
     }
     bank.dropped(80)
 }
@@ -65,27 +52,23 @@ pub(crate) fn overflow(memory: &mut [Envelope]) -> bool {
         && bank.dropped(79) == 0
         && bank.waiting_with(80, 263) == (0, 64)
         && bank.waiting_with(80, 7) == (0, 0)
-        && bank.collect(80)
-            == Some(Envelope {
-                status: true,
-                octet: 7,
-            })
+        && bank.collect(80) == Some(SEVEN)
 }
 
 fn answers_nothing(bank: &mut QueueBank, channel: u16) -> bool {
     bank.give(channel, envelope(0));
     !bank.offer(channel, envelope(0))
-        && bank.take(channel) == None
-        && bank.collect(channel) == None
+        && bank.take(channel).is_none()
+        && bank.collect(channel).is_none()
         && bank.waiting(channel) == (0, 0)
         && bank.dropped(channel) == 0
 }
 
 pub(crate) fn name_no_channel(memory: &mut [Envelope]) -> bool {
     let mut bank = QueueBank::new(memory);
-    answers_nothing(&mut bank, 0)
-        && answers_nothing(&mut bank, 81)
-        && answers_nothing(&mut bank, 65_535)
+    [0, 81, 65_535]
+        .into_iter()
+        .all(|channel| answers_nothing(&mut bank, channel))
 }
 
 pub(crate) fn lack_memory(memory: &mut [Envelope]) -> bool {

@@ -5,17 +5,20 @@ use ring::Ring;
 pub(crate) fn go_round(memory: &mut [u32]) -> bool {
     let mut ring = Ring::new(1, 3);
     let mut beside = Ring::new(4, 4);
-    let mut passed = beside.put(memory, 77);
-    for k in 0..1000 {
-        passed = passed && ring.put(memory, k) && ring.put(memory, k + 1);
-        passed = passed && ring.take(memory) == Some(k) && ring.take(memory) == Some(k + 1);
-    }
-    passed && ring.take(memory) == None && beside.take(memory) == Some(77)
+    beside.put(memory, 77)
+        && (0..1000).all(|k| {
+            ring.put(memory, k)
+                && ring.put(memory, k + 1)
+                && ring.take(memory) == Some(k)
+                && ring.take(memory) == Some(k + 1)
+        })
+        && ring.take(memory).is_none()
+        && beside.take(memory) == Some(77)
 }
 
 // A ring of 4 places from place 2 on, over a memory of 5.
 pub(crate) fn reach_too_far() -> bool {
     let mut memory = [0u8; 5];
     let mut ring = Ring::new(2, 4);
-    !ring.put(&mut memory, 9) && ring.take(&memory) == None && ring.waiting(&memory) == 0
+    !ring.put(&mut memory, 9) && ring.take(&memory).is_none() && ring.waiting(&memory) == 0
 }

@@ -1,13 +1,17 @@
 -- What the calls make of the account of two registers.
-use Rattle.std.proofs.Common.{◌≡◌, ℕ, zero, suc, ◌+◌, ◌-◌, ◌*◌, true, cond, List, [], ◌∷◌, ◌++◌, length, get_or, take, set, Some, Option, sym, refl, ap, ◌∙◌, arith}
+use Rattle.std.proofs.Common.{◌≡◌, ℕ, zero, suc, ◌+◌, ◌-◌, ◌*◌, true, false, cond, List, [], ◌∷◌, ◌++◌, length, take, Some, None, Option, sym, refl, ap, ◌∙◌, arith}
 use Rattle.std.proofs.lemmas.List.{take_at, drop_at, get_or-append_right, length-take-le}
 use Rattle.std.proofs.lemmas.Bool.{cond-true, eq-eqb}
 use Rattle.bank.specs.declared.Envelope.{Envelope}
-use Rattle.bank.specs.Meaning.{is_channel, put_at}
+use Rattle.bank.specs.Meaning.{Accounts, is_channel, put_at}
 use Rattle.bank.specs.Channels.{table, on_each}
-use Rattle.bank.proofs.Tables.{channel_low, channel_high, table_set, table_at}
-use Rattle.pattern_bank.specs.declared.Channel.{Channel}
-use Rattle.pattern_bank.specs.Register.{stages, all_ones, next_bit, shifted, bits_from, octet_from}
+use Rattle.bank.proofs.Tables.{channel_low, channel_high, put_at_left, table_set, table_at}
+use Rattle.std.specs.Borrow.{MutBor}
+use Rattle.std.specs.Fn.{Once, FnOnceReturnsAtMut}
+use Rattle.std.proofs.lemmas.Option.{get_or_from_slice_get}
+use Rattle.pattern_bank.specs.Called.{Called}
+use Rattle.pattern_bank.specs.declared.channel.Channel.{Channel}
+use Rattle.pattern_bank.specs.Register.{all_ones, next_bit, shifted, bits_from, octet_from}
 use Rattle.pattern_bank.specs.Pattern.{Pattern, fresh, marked, take_from, give_to}
 use Rattle.pattern_bank.specs.Meaning.{as_account, as_pattern, pattern_each, pattern_meaning}
 use Rattle.pattern_bank.specs.Standing.{pattern_of, FirstTakes, given_back, looped, LoopedBack}
@@ -31,36 +35,34 @@ length_after (suc n) o r e =
     let shorter : length (take 8 r) ≡ 8 = length-take-le 8 r (omega arith) in
     length_after n (o * 2 + next_bit r) (shifted r) (omega arith)
 
-module _ (cs : List Channel) (n : ℕ) (len : length cs ≡ 80) (t : is_channel n ≡ true) where
-  -- the channel's new registers and count, as the accounts have them
-  pub wrote : (c : Channel) (a : List ℕ) → a ≡ as_account (pattern_of c) → table (λ x. as_account (pattern_of x)) (set cs (n - 1) c) ≡ put_at n a (table (λ x. as_account (pattern_of x)) cs)
-  wrote c a e =
-      let low = channel_low n t in
-      let high = channel_high n t in
-      table_set (λ x. as_account (pattern_of x)) cs n c low (omega arith) ∙ ap (λ b. put_at n b (table (λ x. as_account (pattern_of x)) cs)) (sym e)
+-- what the calls mean on the account of a channel
+pub collected_account : (c : Channel) → pattern_each.collected (as_account (pattern_of c)) ≡ (Some (marked c.wrong), as_account (pattern_of c))
+collected_account c = ap (λ p. (Some (marked p.wrong), as_account (pattern_of c))) (pattern_account (pattern_of c) refl refl)
 
-  stands : (d : Channel) → table (λ x. as_account (pattern_of x)) cs n ≡ as_account (pattern_of (get_or cs (n - 1) d))
-  stands d =
-      let low = channel_low n t in
-      let high = channel_high n t in
-      table_at (λ x. as_account (pattern_of x)) cs n d low (omega arith)
+pub taken_account : (c : Channel) → pattern_each.taken (as_account (pattern_of c)) ≡ (Some (marked (octet_from (pattern_of c).sending).0), as_account (take_from (pattern_of c)))
+taken_account c = ap (λ p. (Some (marked (octet_from p.sending).0), as_account (take_from p))) (pattern_account (pattern_of c) refl refl)
 
-  told : (d : Channel) → as_pattern (table (λ x. as_account (pattern_of x)) cs n) ≡ pattern_of (get_or cs (n - 1) d)
-  told d = ap as_pattern (stands d) ∙ pattern_account (pattern_of (get_or cs (n - 1) d)) refl refl
+pub given_account : (c : Channel) (e : Envelope) → pattern_each.given (as_account (pattern_of c)) e ≡ as_account (give_to (pattern_of c) e)
+given_account c e = ap (λ p. as_account (give_to p e)) (pattern_account (pattern_of c) refl refl)
 
-  -- what the calls mean on channel n
-  pub offered_is : (a : List ℕ) (e : Envelope) → pattern_meaning.offered n a e ≡ (true, as_account fresh)
-  offered_is a e = cond-true (is_channel n) _ _ t
+-- the accounts of the channels
+abbrev accounts : List Channel → Accounts
+accounts cs = table (λ c. as_account (pattern_of c)) cs
 
-  module _ (d : Channel) where
-    pub collected_is : pattern_meaning.collected n (table (λ x. as_account (pattern_of x)) cs n) ≡ (Some (marked (get_or cs (n - 1) d).wrong), table (λ x. as_account (pattern_of x)) cs n)
-    collected_is = cond-true (is_channel n) _ _ t ∙ ap (λ p. (Some (marked p.wrong), table (λ x. as_account (pattern_of x)) cs n)) (told d)
-
-    pub taken_is : pattern_meaning.taken n (table (λ x. as_account (pattern_of x)) cs n) ≡ (Some (marked (octet_from (stages (get_or cs (n - 1) d).sending)).0), as_account (take_from (pattern_of (get_or cs (n - 1) d))))
-    taken_is = cond-true (is_channel n) _ _ t ∙ ap (λ p. (Some (marked (octet_from p.sending).0), as_account (take_from p))) (told d)
-
-    pub given_is : (e : Envelope) → pattern_meaning.given n (table (λ x. as_account (pattern_of x)) cs n) e ≡ as_account (give_to (pattern_of (get_or cs (n - 1) d)) e)
-    given_is e = cond-true (is_channel n) _ _ t ∙ ap (λ p. as_account (give_to p e)) (told d)
+module _ {F R A : Type 0} {g : Once F (MutBor Channel × Unit {0}) (R × (MutBor Channel × Unit {0}))} {call : F} (n : ℕ) (cs cs' : List Channel) (len : length cs ≡ 80) (to : Option R → A) (m : List ℕ → A × List ℕ) where
+  -- a call on channel n means m, if it answers and leaves what m has on the channel that it finds
+  pub called_means : (o : Option R) → Called g call n cs o cs' → ((a : List ℕ) → is_channel n ≡ false → m a ≡ (to None, a)) → ((c : Channel) (x : R) (c' : Channel) → is_channel n ≡ true → FnOnceReturnsAtMut g call c x c' → m (as_account (pattern_of c)) ≡ (to (Some x), as_account (pattern_of c'))) → (to o ≡ (m (accounts cs n)).0) × (accounts cs' ≡ put_at n (m (accounts cs n)).1 (accounts cs))
+  called_means None k out on =
+      let e = out (accounts cs n) k.outside in
+      (sym (ap (λ p. p.0) e), ap accounts k.rows ∙ sym (put_at_left n _ (accounts cs) (ap (λ p. p.1) e)))
+  called_means (Some x) k out on =
+      let low = channel_low n k.inside in
+      let high = channel_high n k.inside in
+      let stands : accounts cs n ≡ as_account (pattern_of k.found) =
+      table_at (λ c. as_account (pattern_of c)) cs n k.found low (omega arith)
+      ∙ ap (λ c. as_account (pattern_of c)) (get_or_from_slice_get cs (n - 1) k.found k.found k.here) in
+      let e = ap m stands ∙ on k.found x k.left k.inside k.called in
+      (sym (ap (λ p. p.0) e), ap accounts k.rows ∙ table_set (λ c. as_account (pattern_of c)) cs n k.left low (omega arith) ∙ ap (λ a. put_at n a (accounts cs)) (sym (ap (λ p. p.1) e)))
 
 module _ (n : ℕ) (t : is_channel n ≡ true) where
   abbrev alike : List ℕ → Pattern

@@ -2,3 +2,4 @@ pub mod Register
 pub mod Pattern
 pub mod Meaning
 pub mod Standing
+pub mod Called

@@ -4,13 +4,13 @@ use Rattle.bank.specs.declared.Envelope.{Envelope}
 use Rattle.bank.specs.Meaning.{Accounts, is_channel}
 use Rattle.bank.specs.Channels.{table}
 use Rattle.pattern_bank.specs.declared.PatternBank.{PatternBank}
-use Rattle.pattern_bank.specs.declared.Channel.{Channel}
+use Rattle.pattern_bank.specs.declared.channel.Channel.{Channel}
 use Rattle.pattern_bank.specs.Register.{stages}
 use Rattle.pattern_bank.specs.Pattern.{Pattern, marked}
 use Rattle.pattern_bank.specs.Meaning.{as_account, pattern_meaning}
 
 abbrev pub pattern_of : Channel → Pattern
-pattern_of c = record { sending = stages c.sending; comparing = stages c.comparing; wrong = c.wrong }
+pattern_of c = record { sending = stages c.sending.bits; comparing = stages c.comparing.bits; wrong = c.wrong }
 
 abbrev pub account_of : PatternBank → Accounts
 account_of b = table (λ c. as_account (pattern_of c)) b.channels

@@ -1,32 +1,41 @@
-// The shift register of nine stages. Stage 1 is the lowest bit.
+// The shift register of nine stages.
 ghost use Rattle.std.specs.Prelude.{◌≡◌, ◌<◌};
 ghost use Rattle.pattern_bank.specs.Register.{stages, next_bit, shifted, octet_from};
 
-// Nine ones.
-pub const ONES: u16 = 511;
-
-fn next_bit(register: u16) -> u16
-    ensures is { result ≡ next_bit (stages register) }
-    ensures small { result < 2 }
-{
-    (register / 16 + register / 256) % 2
+// Stage 1 is the lowest bit.
+#[derive(Clone, Copy)]
+pub struct Register {
+    bits: u16,
 }
 
-fn shift(register: u16) -> u16
-    ensures { stages result ≡ shifted (stages register) }
-{
-    register % 256 * 2 + next_bit(register)
-}
+impl Register {
+    // Nine ones.
+    pub const ONES: Register = Register { bits: 511 };
 
-// The octet that the next eight bits make, and the register after them.
-pub fn next_octet(register: u16) -> (u8, u16)
-    ensures { (result.0, stages result.1) ≡ octet_from (stages register) }
-{
-    let mut octet = 0;
-    let mut left = register;
-    for _k in 0..8u8 {
-        octet = octet * 2 + next_bit(left);
-        left = shift(left);
+    // The bit that enters next.
+    fn next_bit(self) -> u16
+        ensures is { result ≡ next_bit (stages self.bits) }
+        ensures small { result < 2 }
+    {
+        (self.bits / 16 + self.bits / 256) % 2
     }
-    (octet as u8, left)
+
+    // Every bit moves one stage up, and the next one enters.
+    fn shift(&mut self)
+        ensures { stages self.new.bits ≡ shifted (stages self.old.bits) }
+    {
+        self.bits = self.bits % 256 * 2 + self.next_bit();
+    }
+
+    // The octet that the next eight bits make. Each bit moves the register on, so this is a loop and no fold.
+    pub fn next_octet(&mut self) -> u8
+        ensures { (result, stages self.new.bits) ≡ octet_from (stages self.old.bits) }
+    {
+        let mut octet = 0;
+        for _ in 0..8u8 {
+            octet = octet * 2 + self.next_bit();
+            self.shift();
+        }
+        octet as u8
+    }
 }

@@ -1,6 +1,8 @@
 -- What a call on one channel does to the queues of that channel, and of every other.
-use Rattle.std.proofs.Common.{◌≡◌, ℕ, ◌+◌, ◌<◌, ◌≤◌, Bool, ltb, ◌⊎◌, List, length, sym, refl, ap, ◌∙◌, ap₂, inl, inr, ⊎_elim, arith}
-use Rattle.std.proofs.lemmas.Bool.{cond-true, cond-false, lt-ltb, le-ltb, le-leb, cases_lt, cond_both}
+use Rattle.std.proofs.Common.{◌≡◌, ℕ, ◌+◌, ◌*◌, ◌<◌, ◌≤◌, Bool, ltb, ◌⊎◌, List, length, get_or, set, length-set, sym, refl, ap, ◌∙◌, ap₂, inl, inr, ⊎_elim, arith}
+use Rattle.std.proofs.lemmas.Bool.{cond-true, cond-false, lt-ltb, le-ltb, le-leb, cases_lt, cases_eq, cond_both}
+use Rattle.std.proofs.lemmas.List.{get_or-set_same, get_or-set_other}
+use Rattle.queue_bank.specs.Laid.{Laid}
 use Rattle.bank.specs.declared.Envelope.{Envelope}
 use Rattle.ring.specs.declared.shape.Ring.{Ring}
 use Rattle.ring.specs.Queue.{empty}
@@ -84,3 +86,13 @@ spare_ring b = record { base = b; places = 0; head = 0; waiting = 0; inside = om
 pub spare : Channel
 unfolding spare_ring
 spare = record { outgoing = spare_ring 0; incoming = spare_ring 64; dropped = 0; out_fits = omega arith; in_fits = omega arith; beside = refl }
+
+-- a channel that lies where the one before it lay
+pub laid_set : (cs : List Channel) (i : ℕ) (c : Channel) → i < length cs → Laid cs → c.outgoing.base ≡ 128 * i → Laid (set cs i c)
+laid_set cs i c lt laid here k d in_set =
+    ⊎_elim
+    (λ (e : k ≡ i). ap (λ j. (get_or (set cs i c) j d).outgoing.base) e ∙ ap (λ x. x.outgoing.base) (get_or-set_same cs i c d lt) ∙ here ∙ ap (λ j. 128 * j) (sym e))
+    (λ (ne : k ≡ i → ⊥).
+    let len : length (set cs i c) ≡ length cs = length-set cs i c in
+    ap (λ x. x.outgoing.base) (get_or-set_other cs i k c d ne) ∙ laid k d (omega arith))
+    (cases_eq k i)

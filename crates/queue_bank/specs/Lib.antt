@@ -5,3 +5,4 @@ pub mod Meaning
 pub mod Standing
 pub mod Readings
 pub mod Order
+pub mod Called

@@ -1,5 +1,6 @@
 -- What the queue bank answers and leaves, and that it shows the law of banks.
-use Rattle.std.specs.Prelude.{◌≡◌, ℕ, Bool, true, false, cond, List, Some, None, Option, refl}
+use Rattle.std.specs.Prelude.{◌≡◌, ℕ, Bool, true, false, cond, List, Some, None, Option, is_some, refl}
+use Rattle.std.proofs.Common.{ap}
 use Rattle.std.proofs.lemmas.Bool.{true≢false}
 use Rattle.bank.specs.declared.Envelope.{Envelope}
 use Rattle.bank.specs.Meaning.{Meaning, Laws}
@@ -29,14 +30,9 @@ refused : (b : Bool) (x a : List ℕ) → (cond {A = Bool × List ℕ} b (true, 
 refused true x a e = absurd (true≢false e)
 refused false x a e = refl
 
-is_some : Option Envelope → Bool
-is_some None = false
-is_some (Some e) = true
-
 nothing : (o : Option Envelope) (x a : List ℕ) → (answered o x a).0 ≡ None → (answered o x a).1 ≡ a
-unfolding is_some
 nothing None x a e = refl
-nothing (Some y) x a e = absurd (true≢false (λ i. is_some (e i)))
+nothing (Some y) x a e = absurd (true≢false (ap is_some e))
 
 pub queue_laws : Laws queue_meaning
 queue_laws = lawful queue_each (λ a e. refused (has_room (as_queues a).outgoing) _ a) (λ a. nothing (oldest (as_queues a).incoming) _ a)

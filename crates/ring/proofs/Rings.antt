@@ -1,12 +1,11 @@
 -- The queue that a ring holds, by whether the memory reaches to its last place.
-use Rattle.std.proofs.Common.{◌≡◌, ℕ, ◌+◌, ◌-◌, ◌<◌, ◌≤◌, Bool, true, false, cond, ltb, ◌⊎◌, List, [], length, take, drop, set, None, sym, refl, ap, ◌∙◌, ap₂, ⊎_elim, arith, drop-set-lt}
+use Rattle.std.proofs.Common.{◌≡◌, ℕ, ◌+◌, ◌-◌, ◌<◌, ◌≤◌, Bool, true, false, cond, ltb, ◌⊎◌, List, length, take, drop, set, sym, refl, ap, ◌∙◌, ap₂, ⊎_elim, arith, drop-set-lt}
 use lib.Seq.{take-set-le}
 use Rattle.std.proofs.lemmas.List.{drop-take, take-take, drop-drop}
 use Rattle.std.proofs.lemmas.Bool.{cond-true, cond-false, leb-true}
-use Rattle.std.specs.List.{slice_get}
 use Rattle.ring.specs.declared.shape.Ring.{Ring}
 use Rattle.ring.specs.Queue.{empty, has_room}
-use Rattle.ring.specs.Held.{part, around, turned, reaches, queue, Put, Taken}
+use Rattle.ring.specs.Held.{part, around, turned, reaches, queue}
 use Rattle.ring.proofs.Turning.{length_list}
 
 module _ {T : Type 0} where
@@ -34,24 +33,27 @@ module _ {T : Type 0} where
   pub room_short : (r : Ring) (m : List T) → reaches r (length m) ≡ false → has_room (queue r m) ≡ false
   room_short r m t = ap has_room (queue_short r m t)
 
-  pub put_refused : (x : T) (r : Ring) (m : List T) → has_room (queue r m) ≡ false → Put x r m false r m
-  put_refused x r m t =
-      record {
-        answer = sym t;
-        left = sym (cond-false (has_room (queue r m)) _ (queue r m) t);
-        same = record { base = refl; places = refl };
-        outside = refl;
-        refused = λ _. (refl, refl);
-      }
+  -- how many wait
+  pub length_long : (r : Ring) (m : List T) → reaches r (length m) ≡ true → length (queue r m).waiting ≡ r.waiting
+  length_long r m t = ap (λ q. length q.waiting) (queue_long r m t) ∙ length_held r m (leb-true (r.base + r.places) (length m) t)
 
-  pub taken_none : (r : Ring) (m : List T) → (queue r m).waiting ≡ [] → Taken r m None r
-  taken_none r m e =
-      record {
-        answer = sym (ap (λ l. slice_get l 0) e);
-        left = λ i. record { places = (queue r m).places; waiting = (e ∙ ap (drop 1) (sym e)) i };
-        same = record { base = refl; places = refl };
-        none = λ _. refl;
-      }
+  pub length_short : (r : Ring) (m : List T) → reaches r (length m) ≡ false → length (queue r m).waiting ≡ 0
+  length_short r m t = ap (λ q. length q.waiting) (queue_short r m t)
+
+  pub length_queue : (r : Ring) (m : List T) → length (queue r m).waiting ≤ r.places
+  length_queue r m = at (reaches r (length m)) refl
+    where
+      at : (b : Bool) → reaches r (length m) ≡ b → length (queue r m).waiting ≤ r.places
+      at true t = let f = r.fits in omega (arith, length_long r m t)
+      at false t = omega (arith, length_short r m t)
+
+  -- something waits only where the memory reaches
+  pub some_wait : (r : Ring) (m : List T) → 0 < length (queue r m).waiting → (reaches r (length m) ≡ true) × (0 < r.waiting)
+  some_wait r m lt = at (reaches r (length m)) refl
+    where
+      at : (b : Bool) → reaches r (length m) ≡ b → (reaches r (length m) ≡ true) × (0 < r.waiting)
+      at true t = (t, omega (arith, length_long r m t))
+      at false t = absurd (omega (arith, length_short r m t))
 
   -- nothing waits
   pub queue_fresh : (r : Ring) (m : List T) → r.waiting ≡ 0 → queue r m ≡ empty (cond (reaches r (length m)) r.places 0)

@@ -1,7 +1,9 @@
 // The generic queue over a slice that is lent at each call.
 #![tactic(auto)]
 
-ghost use Rattle.std.specs.Prelude.{◌≡◌, ℕ, ◌<◌, ◌≤◌, length, count_by, nat_eq};
+ghost use Rattle.std.specs.Prelude.{◌≡◌, ℕ, ◌+◌, ◌<◌, ◌≤◌, IsTrue, ◌++◌, length, count_by, nat_eq};
+ghost use Rattle.std.specs.List.{slice_get};
+ghost use Rattle.ring.specs.Queue.{has_room, oldest};
 ghost use Rattle.ring.specs.Held.{place_at, reaches, queue, Fresh, Put, Taken};
 
 mod shape;
@@ -29,11 +31,11 @@ impl Ring {
         }
     }
 
-    // Whether a memory of `len` elements reaches to the last place.
-    fn reaches(&self, len: usize) -> bool
-        ensures { result ≡ reaches self.now len }
+    // Whether the memory reaches to the last place.
+    fn reaches<T>(&self, memory: &[T]) -> bool
+        ensures { result ≡ reaches self.now (length memory.now) }
     {
-        self.base <= len && self.places <= len - self.base
+        self.base <= memory.len() && self.places <= memory.len() - self.base
     }
 
     // Where the place that is k after the oldest lies, counted from `base`.
@@ -50,11 +52,35 @@ impl Ring {
         }
     }
 
+    // Whether a place is free.
+    fn has_room<T>(&self, memory: &[T]) -> bool
+        ensures is { result ≡ has_room (queue self.now memory.now) }
+        ensures within { IsTrue result → self.now.base + self.now.places ≤ length memory.now }
+        ensures free { IsTrue result → self.now.waiting < self.now.places }
+    {
+        self.reaches(memory) && self.waiting < self.places
+    }
+
+    // What waits, oldest first, in two runs: up to the last place, and then from the first place on.
+    fn runs<'m, T: Copy>(&self, memory: &'m [T]) -> (&'m [T], &'m [T])
+        ensures is { result.0.now ++ result.1.now ≡ (queue self.now memory.now).waiting }
+        ensures within { length result.0.now + length result.1.now ≤ length memory.now }
+        ensures first { slice_get result.0.now 0 ≡ oldest (queue self.now memory.now) }
+    {
+        if !self.reaches(memory) {
+            return (&[], &[]);
+        }
+        let (late, early) = memory[self.base..self.base + self.places].split_at(self.head);
+        let until_end = self.waiting.min(early.len());
+        (&early[..until_end], &late[..self.waiting - until_end])
+    }
+
     /// Adds `x` as the newest, or answers no where every place is full.
+    // Yes or no, since that is what a bank's offer answers.
     pub fn put<T: Copy>(&mut self, memory: &mut [T], x: T) -> bool
         ensures { Put x self.old memory.old result self.new memory.new }
     {
-        if !self.reaches(memory.len()) || self.waiting >= self.places {
+        if !self.has_room(memory) {
             return false;
         }
         let at = self.base + self.place(self.waiting);
@@ -67,10 +93,7 @@ impl Ring {
     pub fn take<T: Copy>(&mut self, memory: &[T]) -> Option<T>
         ensures { Taken self.old memory.now result self.new }
     {
-        if !self.reaches(memory.len()) || self.waiting == 0 {
-            return None;
-        }
-        let x = memory[self.base + self.head];
+        let x = *self.runs(memory).0.first()?;
         self.head = if self.head + 1 < self.places {
             self.head + 1
         } else {
@@ -85,7 +108,7 @@ impl Ring {
         ensures is { result ≡ length (queue self.now memory.now).waiting }
         ensures within { result ≤ self.now.places }
     {
-        if self.reaches(memory.len()) {
+        if self.reaches(memory) {
             self.waiting
         } else {
             0
@@ -97,16 +120,11 @@ impl Ring {
         ensures is { result ≡ count_by (λ x. nat_eq (T.coded x) code) (queue self.now memory.now).waiting }
         ensures within { result ≤ self.now.places }
     {
-        if !self.reaches(memory.len()) {
-            return 0;
-        }
-        let mut count = 0;
-        for k in 0..self.waiting {
-            let at = self.base + self.place(k);
-            if memory[at].code() == code {
-                count += 1;
-            }
-        }
-        count
+        let (first, rest) = self.runs(memory);
+        first
+            .iter()
+            .chain(rest)
+            .filter(|x| x.code() == code)
+            .count()
     }
 }

@@ -1,4 +1,4 @@
-// A ring as four plain numbers, so that many rings can lie in one memory.
+// The core allocates nothing, so a ring is four plain numbers over memory that is lent, and many rings can lie in one memory.
 ghost use Rattle.std.specs.Prelude.{◌<◌, ◌≤◌, max};
 
 /// A queue of `places` places from `base` on in a memory that is lent at each call.

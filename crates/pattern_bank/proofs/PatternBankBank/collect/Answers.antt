@@ -1,17 +1,19 @@
-use Rattle.std.proofs.Common.{◌≡◌, true, length, sym, ap, rules}
-use Rattle.bank.specs.Meaning.{is_channel}
-use Rattle.bank.proofs.Tables.{put_at_left}
-use Rattle.pattern_bank.specs.declared.Channel.{Channel}
-use Rattle.pattern_bank.specs.Standing.{account_of}
-use Rattle.pattern_bank.proofs.Patterns.{collected_is}
+use Rattle.std.proofs.Common.{◌≡◌, length, ◌∙◌, Some, sym, rules}
+use Rattle.std.proofs.lemmas.Bool.{cond-true}
+use Rattle.pattern_bank.specs.Pattern.{marked}
+use Rattle.pattern_bank.specs.Meaning.{as_account, pattern_meaning, pattern_laws}
+use Rattle.pattern_bank.specs.Standing.{pattern_of}
+use Rattle.pattern_bank.proofs.Patterns.{called_means, collected_account}
 use Rattle.pattern_bank.proofs.PatternBankBank.collect.Goals as goal
 
 pub returns : goal.returns
 returns c =
-    let cs = c.args.self.now.channels in
     let n = c.args.channel in
-    let t : is_channel n ≡ true = sym c.if-not-is_channel.ensures in
-    let len : length cs ≡ 80 = search rules in
-    let z : Channel = record { sending = 0; comparing = 0; wrong = 0 } in
-    let means = collected_is cs n len t z in
-    record { answer = sym (ap (λ p. p.0) means); left = sym (put_at_left n _ (account_of c.args.self.now) (ap (λ p. p.1) means)) }
+    let len : length c.args.self.now.channels ≡ 80 = search rules in
+    let all =
+    called_means n c.args.self.now.channels c.on_channel.new.self.channels len (λ o. o) (pattern_meaning.collected n) c.on_channel.result c.on_channel.ensures (pattern_laws.no_collect n)
+    (λ f x l t k.
+    let answer : x ≡ marked f.wrong = search rules in
+    let left : pattern_of l ≡ pattern_of f = search rules in
+    cond-true _ _ _ t ∙ collected_account f ∙ (λ i. (Some (sym answer i), as_account (sym left i)))) in
+    record { answer = all.0; left = all.1 }

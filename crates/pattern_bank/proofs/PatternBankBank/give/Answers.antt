@@ -1,27 +1,19 @@
-use Rattle.std.proofs.Common.{◌≡◌, ℕ, ◌-◌, true, List, length, get_or, sym, ap, ◌∙◌, rules}
-use Rattle.bank.specs.Meaning.{is_channel}
-use Rattle.pattern_bank.specs.declared.Channel.{Channel}
-use Rattle.pattern_bank.specs.Register.{stages}
-use Rattle.pattern_bank.specs.Pattern.{wrong_after}
-use Rattle.pattern_bank.specs.Meaning.{as_account}
-use Rattle.pattern_bank.proofs.Patterns.{wrote, given_is}
+use Rattle.std.proofs.Common.{◌≡◌, length, ◌∙◌, ap, sym, rules}
+use Rattle.std.proofs.lemmas.Bool.{cond-true}
+use Rattle.pattern_bank.specs.Pattern.{give_to}
+use Rattle.pattern_bank.specs.Meaning.{as_account, pattern_meaning, pattern_laws}
+use Rattle.pattern_bank.specs.Standing.{pattern_of}
+use Rattle.pattern_bank.proofs.Patterns.{called_means, given_account}
 use Rattle.pattern_bank.proofs.PatternBankBank.give.Goals as goal
 
 pub returns : goal.returns
 returns c =
-    let cs = c.args.self.now.channels in
     let n = c.args.channel in
-    let t : is_channel n ≡ true = sym c.if-not-is_channel.ensures in
-    let len : length cs ≡ 80 = search rules in
-    let z : Channel = record { sending = 0; comparing = 0; wrong = 0 } in
-    let q : Channel = get_or cs (n - 1) z in
     let e = c.args.e in
-    let o = c.next_octet-expected.ensures in
-    let left : ℕ × List ℕ → ℕ → List ℕ = λ r w. as_account (record { sending = stages q.sending; comparing = r.1; wrong = w }) in
-    record {
-      left =
-          wrote cs n len t _ _
-          (given_is cs n len t z e
-          ∙ ap (λ (r : ℕ × List ℕ). left r (wrong_after e r.0 q.wrong)) (sym o)
-          ∙ ap (left (c.next_octet-expected.result.0, stages c.next_octet-expected.result.1)) (sym c.count_wrong-wrong.ensures));
-    }
+    let len : length c.args.self.now.channels ≡ 80 = search rules in
+    let all =
+    called_means n c.args.self.now.channels c.on_channel.new.self.channels len (λ o. tt {0}) (λ a. (tt {0}, pattern_meaning.given n a e)) c.on_channel.result c.on_channel.ensures (λ a out. ap (λ b. (tt {0}, b)) (pattern_laws.no_give n a e out))
+    (λ f x l t k.
+    let left : pattern_of l ≡ give_to (pattern_of f) e = search rules in
+    ap (λ b. (tt {0}, b)) (cond-true _ _ _ t ∙ given_account f e ∙ ap as_account (sym left))) in
+    record { left = all.1 }

@@ -1,23 +1,20 @@
-use Rattle.std.proofs.Common.{◌≡◌, ℕ, ◌-◌, true, List, length, get_or, Some, sym, ap, ◌∙◌, rules}
-use Rattle.bank.specs.Meaning.{is_channel}
-use Rattle.pattern_bank.specs.declared.Channel.{Channel}
-use Rattle.pattern_bank.specs.Register.{stages}
-use Rattle.pattern_bank.specs.Pattern.{marked}
-use Rattle.pattern_bank.specs.Meaning.{as_account}
-use Rattle.pattern_bank.proofs.Patterns.{wrote, taken_is}
+use Rattle.std.proofs.Common.{◌≡◌, length, ◌∙◌, Some, sym, rules}
+use Rattle.std.proofs.lemmas.Bool.{cond-true}
+use Rattle.pattern_bank.specs.Register.{octet_from}
+use Rattle.pattern_bank.specs.Pattern.{marked, take_from}
+use Rattle.pattern_bank.specs.Meaning.{as_account, pattern_meaning, pattern_laws}
+use Rattle.pattern_bank.specs.Standing.{pattern_of}
+use Rattle.pattern_bank.proofs.Patterns.{called_means, taken_account}
 use Rattle.pattern_bank.proofs.PatternBankBank.take.Goals as goal
 
 pub returns : goal.returns
 returns c =
-    let cs = c.args.self.now.channels in
     let n = c.args.channel in
-    let t : is_channel n ≡ true = sym c.if-not-is_channel.ensures in
-    let len : length cs ≡ 80 = search rules in
-    let z : Channel = record { sending = 0; comparing = 0; wrong = 0 } in
-    let q : Channel = get_or cs (n - 1) z in
-    let means = taken_is cs n len t z in
-    let o = c.next_octet-octet.ensures in
-    record {
-      answer = ap (λ (r : ℕ × List ℕ). Some (marked r.0)) o ∙ sym (ap (λ p. p.0) means);
-      left = wrote cs n len t _ _ (ap (λ p. p.1) means ∙ ap (λ (r : ℕ × List ℕ). as_account (record { sending = r.1; comparing = stages q.comparing; wrong = q.wrong })) (sym o));
-    }
+    let len : length c.args.self.now.channels ≡ 80 = search rules in
+    let all =
+    called_means n c.args.self.now.channels c.on_channel.new.self.channels len (λ o. o) (pattern_meaning.taken n) c.on_channel.result c.on_channel.ensures (pattern_laws.no_take n)
+    (λ f x l t k.
+    let answer : x ≡ marked (octet_from (pattern_of f).sending).0 = search rules in
+    let left : pattern_of l ≡ take_from (pattern_of f) = search rules in
+    cond-true _ _ _ t ∙ taken_account f ∙ (λ i. (Some (sym answer i), as_account (sym left i)))) in
+    record { answer = all.0; left = all.1 }

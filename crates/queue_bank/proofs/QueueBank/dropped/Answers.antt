@@ -1,14 +1,11 @@
-use Rattle.std.proofs.Common.{sym, ap}
-use Rattle.queue_bank.proofs.Standings.{told, told_outside}
+use Rattle.std.proofs.Common.{◌≡◌, ◌∙◌, sym, ap, arith}
+use Rattle.std.proofs.lemmas.Grind.{common_steps}
+use Rattle.queue_bank.proofs.Standings.{told, queues_found}
 use Rattle.queue_bank.proofs.QueueBank.dropped.Goals as goal
-
-pub returns-then-not-is_channel : goal.returns-then-not-is_channel
-returns-then-not-is_channel c =
-    let b = c.args.self.now in
-    sym (ap (λ q. q.dropped) (told_outside b.rows b.memory.now c.args.channel (sym c.if-not-is_channel.ensures)))
 
 pub returns : goal.returns
 returns c =
     let b = c.args.self.now in
-    let all = told b.rows b.memory.now c.args.channel (sym c.if-not-is_channel.ensures) c.index-self-channel.result in
-    sym (ap (λ q. q.dropped) all)
+    let t = told b.rows b.memory.now c.args.channel c.channel.result c.channel.ensures in
+    let e : c.map_or.result ≡ (queues_found b.memory.now c.channel.result).dropped = grind (arith, common_steps) in
+    e ∙ sym (ap (λ q. q.dropped) t)

@@ -1,15 +1,13 @@
-use Rattle.std.proofs.Common.{sym, ap, ◌∙◌}
+use Rattle.std.proofs.Common.{◌≡◌, ◌∙◌, sym, ap, arith}
+use Rattle.std.proofs.lemmas.Grind.{common_steps}
 use Rattle.queue_bank.specs.Readings.{with_code}
-use Rattle.queue_bank.proofs.Standings.{told, told_outside}
+use Rattle.queue_bank.proofs.Standings.{told, queues_found}
 use Rattle.queue_bank.proofs.QueueBank.waiting_with.Goals as goal
-
-pub returns-then-not-is_channel : goal.returns-then-not-is_channel
-returns-then-not-is_channel c =
-    let b = c.args.self.now in
-    sym (ap (λ q. (with_code c.args.code q.outgoing.waiting, with_code c.args.code q.incoming.waiting)) (told_outside b.rows b.memory.now c.args.channel (sym c.if-not-is_channel.ensures)))
 
 pub returns : goal.returns
 returns c =
     let b = c.args.self.now in
-    let all = told b.rows b.memory.now c.args.channel (sym c.if-not-is_channel.ensures) c.index-self-channel.result in
-    (λ i. (c.count_code.ensures.is i, c.count_code-2.ensures.is i)) ∙ sym (ap (λ q. (with_code c.args.code q.outgoing.waiting, with_code c.args.code q.incoming.waiting)) all)
+    let q = queues_found b.memory.now c.channel.result in
+    let t = told b.rows b.memory.now c.args.channel c.channel.result c.channel.ensures in
+    let e : c.map_or.result ≡ (with_code c.args.code q.outgoing.waiting, with_code c.args.code q.incoming.waiting) = grind (arith, common_steps) in
+    e ∙ sym (ap (λ s. (with_code c.args.code s.outgoing.waiting, with_code c.args.code s.incoming.waiting)) t)

@@ -1,17 +1,26 @@
-use Rattle.std.proofs.Common.{sym, ap, ◌∙◌}
-use Rattle.queue_bank.proofs.Standings.{collect_means, bank_step}
+use Rattle.std.proofs.Common.{◌≡◌, sym, ap, ◌∙◌, rules}
+use Rattle.std.proofs.lemmas.Bool.{cond-true}
+use Rattle.std.specs.Option.{option_flatten}
+use Rattle.ring.specs.Queue.{oldest}
+use Rattle.queue_bank.specs.Queues.{collect_from}
+use Rattle.queue_bank.specs.Account.{as_account}
+use Rattle.queue_bank.specs.Meaning.{queue_meaning, queue_laws}
+use Rattle.queue_bank.specs.Standing.{queues_of, Step}
+use Rattle.queue_bank.proofs.Accounts.{collected_account}
+use Rattle.queue_bank.proofs.Standings.{called_means}
 use Rattle.queue_bank.proofs.QueueBankBank.collect.Goals as goal
 
 pub returns : goal.returns
 returns c =
-    let rows = c.args.self.now.rows in
-    let m = c.args.self.now.memory.now in
+    let b = c.args.self.now in
+    let b' = c.on_channel.new.self in
+    let m = b.memory.now in
     let n = c.args.channel in
-    let t = sym c.if-not-is_channel.ensures in
-    let d = c.index-self-i.result in
-    let means = collect_means rows m n t d in
-    record {
-      answer = c.collect-answer.ensures.answer ∙ sym (ap (λ p. p.0) means);
-      left = bank_step rows m n t d c.collect-answer.new.self c.collect-answer.new.memory _ c.collect-answer.ensures.step _ (ap (λ p. p.1) means);
-      kept = c.collect-answer.ensures.kept;
-    }
+    let all =
+    called_means b.rows m n b'.rows.channels b'.memory.now option_flatten (queue_meaning.collected n) c.on_channel.result c.on_channel.ensures (queue_laws.no_collect n)
+    (λ s x s' m' t k.
+    let q = queues_of m s in
+    let answer : x ≡ oldest q.incoming = search rules in
+    let step : Step s m s' m' (collect_from q) = search rules in
+    (collect_from q, step, cond-true _ _ _ t ∙ collected_account q ∙ ap (λ a. (a, as_account (collect_from q))) (sym answer))) in
+    record { answer = c.flatten.ensures ∙ all.0; left = all.1; kept = search rules }

@@ -1,15 +1,23 @@
-use Rattle.std.proofs.Common.{sym}
-use Rattle.queue_bank.proofs.Standings.{give_means, bank_step, outside_left}
+use Rattle.std.proofs.Common.{ap, ◌∙◌, rules}
+use Rattle.std.proofs.lemmas.Bool.{cond-true}
+use Rattle.queue_bank.specs.Queues.{give_to}
+use Rattle.queue_bank.specs.Meaning.{queue_meaning, queue_laws}
+use Rattle.queue_bank.specs.Standing.{queues_of, Step}
+use Rattle.queue_bank.proofs.Accounts.{given_account}
+use Rattle.queue_bank.proofs.Standings.{called_means}
 use Rattle.queue_bank.proofs.QueueBankBank.give.Goals as goal
 
 pub returns : goal.returns
 returns c =
-    let rows = c.args.self.now.rows in
-    let m = c.args.self.now.memory.now in
+    let b = c.args.self.now in
+    let b' = c.on_channel.new.self in
+    let m = b.memory.now in
     let n = c.args.channel in
-    let t = sym c.if-not-is_channel.ensures in
-    let d = c.index-self-i.result in
-    record {
-      left = bank_step rows m n t d c.give.new.self c.give.new.memory _ c.give.ensures _ (give_means rows m n t d c.args.e);
-      outside = outside_left rows m n t d c.give.new.self c.give.new.memory _ c.give.ensures;
-    }
+    let e = c.args.e in
+    let all =
+    called_means b.rows m n b'.rows.channels b'.memory.now (λ o. tt {0}) (λ a. (tt {0}, queue_meaning.given n a e)) c.on_channel.result c.on_channel.ensures (λ a out. ap (λ l. (tt {0}, l)) (queue_laws.no_give n a e out))
+    (λ s x s' m' t k.
+    let q = queues_of m s in
+    let step : Step s m s' m' (give_to q e) = search rules in
+    (give_to q e, step, ap (λ l. (tt {0}, l)) (cond-true _ _ _ t ∙ given_account q e))) in
+    record { left = all.1; outside = all.2 }

@@ -1,17 +1,36 @@
-use Rattle.std.proofs.Common.{sym, ap, ◌∙◌}
-use Rattle.queue_bank.proofs.Standings.{offer_means, bank_step, outside_left}
+use Rattle.std.proofs.Common.{◌≡◌, false, unwrap_or, refl, sym, ap, ◌∙◌, inl, length, rules}
+use Rattle.std.proofs.lemmas.Bool.{cond-true}
+use Rattle.ring.specs.Held.{queue, Put}
+use Rattle.queue_bank.specs.Queues.{offer_to}
+use Rattle.queue_bank.specs.Account.{as_account}
+use Rattle.queue_bank.specs.Meaning.{queue_meaning, queue_laws}
+use Rattle.queue_bank.specs.Standing.{queues_of, Step}
+use Rattle.queue_bank.proofs.Accounts.{offered_account}
+use Rattle.queue_bank.proofs.Channels.{incoming_left, within_channel}
+use Rattle.queue_bank.proofs.Standings.{called_means}
 use Rattle.queue_bank.proofs.QueueBankBank.offer.Goals as goal
 
 pub returns : goal.returns
 returns c =
-    let rows = c.args.self.now.rows in
-    let m = c.args.self.now.memory.now in
+    let b = c.args.self.now in
+    let b' = c.on_channel.new.self in
+    let m = b.memory.now in
     let n = c.args.channel in
-    let t = sym c.if-not-is_channel.ensures in
-    let d = c.index-self-i.result in
-    let means = offer_means rows m n t d c.args.e in
-    record {
-      answer = c.offer-done.ensures.answer ∙ sym (ap (λ p. p.0) means);
-      left = bank_step rows m n t d c.offer-done.new.self c.offer-done.new.memory _ c.offer-done.ensures.step _ (ap (λ p. p.1) means);
-      outside = outside_left rows m n t d c.offer-done.new.self c.offer-done.new.memory _ c.offer-done.ensures.step;
-    }
+    let e = c.args.e in
+    let all =
+    called_means b.rows m n b'.rows.channels b'.memory.now (λ o. unwrap_or o false) (λ a. queue_meaning.offered n a e) c.on_channel.result c.on_channel.ensures (λ a. queue_laws.no_offer n a e)
+    (λ s x s' m' t k.
+    let q = queues_of m s in
+    let put : Put e s.outgoing m x s'.outgoing m' = search rules in
+    let len : length m' ≡ length m = search rules in
+    let inn : s'.incoming ≡ s.incoming = search rules in
+    let same : s'.dropped ≡ s.dropped = search rules in
+    let beside = ap (λ r. queue r m') inn ∙ incoming_left s s'.outgoing m m' e x put len in
+    let step : Step s m s' m' (offer_to q e) = record {
+      left = λ i. record { outgoing = put.left i; incoming = beside i; dropped = same i };
+      base = put.same.base;
+      size = len;
+      outside = within_channel s s.outgoing m m' (inl refl) put.outside;
+    } in
+    (offer_to q e, step, cond-true _ _ _ t ∙ offered_account q e ∙ ap (λ a. (a, as_account (offer_to q e))) (sym put.answer))) in
+    record { answer = c.unwrap_or.ensures ∙ all.0; left = all.1; outside = all.2 }

@@ -1,17 +1,26 @@
-use Rattle.std.proofs.Common.{sym, ap, ◌∙◌}
-use Rattle.queue_bank.proofs.Standings.{take_means, bank_step}
+use Rattle.std.proofs.Common.{◌≡◌, sym, ap, ◌∙◌, rules}
+use Rattle.std.proofs.lemmas.Bool.{cond-true}
+use Rattle.std.specs.Option.{option_flatten}
+use Rattle.ring.specs.Queue.{oldest}
+use Rattle.queue_bank.specs.Queues.{take_from}
+use Rattle.queue_bank.specs.Account.{as_account}
+use Rattle.queue_bank.specs.Meaning.{queue_meaning, queue_laws}
+use Rattle.queue_bank.specs.Standing.{queues_of, Step}
+use Rattle.queue_bank.proofs.Accounts.{taken_account}
+use Rattle.queue_bank.proofs.Standings.{called_means}
 use Rattle.queue_bank.proofs.QueueBankBank.take.Goals as goal
 
 pub returns : goal.returns
 returns c =
-    let rows = c.args.self.now.rows in
-    let m = c.args.self.now.memory.now in
+    let b = c.args.self.now in
+    let b' = c.on_channel.new.self in
+    let m = b.memory.now in
     let n = c.args.channel in
-    let t = sym c.if-not-is_channel.ensures in
-    let d = c.index-self-i.result in
-    let means = take_means rows m n t d in
-    record {
-      answer = c.take-answer.ensures.answer ∙ sym (ap (λ p. p.0) means);
-      left = bank_step rows m n t d c.take-answer.new.self c.take-answer.new.memory _ c.take-answer.ensures.step _ (ap (λ p. p.1) means);
-      kept = c.take-answer.ensures.kept;
-    }
+    let all =
+    called_means b.rows m n b'.rows.channels b'.memory.now option_flatten (queue_meaning.taken n) c.on_channel.result c.on_channel.ensures (queue_laws.no_take n)
+    (λ s x s' m' t k.
+    let q = queues_of m s in
+    let answer : x ≡ oldest q.outgoing = search rules in
+    let step : Step s m s' m' (take_from q) = search rules in
+    (take_from q, step, cond-true _ _ _ t ∙ taken_account q ∙ ap (λ a. (a, as_account (take_from q))) (sym answer))) in
+    record { answer = c.flatten.ensures ∙ all.0; left = all.1; kept = search rules }
