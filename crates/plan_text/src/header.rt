@@ -28,6 +28,7 @@ impl TryFrom<&[u8]> for Column {
 
     ghost try_from_gives = { λ name column. result_ok column ≡ column_of name.now };
 
+    // No match on the bytes: it is proved byte by byte, and the goal that it leaves for the longest name stays open.
     fn try_from(name: &[u8]) -> Result<Self, UnknownColumn> {
         if text::is_word(name, b"channel") {
             Ok(Column::Channel)
