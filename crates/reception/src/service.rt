@@ -1,5 +1,6 @@
 // The service words of a frame, and the justification that they tell.
-ghost use Rattle.std.specs.Prelude.{◌≡◌};
+ghost use Rattle.std.specs.Prelude.{◌≡◌, unwrap_or};
+ghost use Rattle.frame.specs.declared.mode.Justification.TheVariants.{Unchanged};
 ghost use Rattle.reception.specs.Words.{are_complete, has_majority, majority, no_words, taken, told, with_bit};
 
 use crate::register::shift;
@@ -70,7 +71,8 @@ impl Service {
 
     // What the words tell: nothing where all four were received, and no service word has a majority of them.
     pub(crate) fn told(&self) -> Option<Justification>
-        ensures { result ≡ told self.now.words }
+        ensures told { result ≡ told self.now.words }
+        ensures taken { unwrap_or result Unchanged ≡ taken self.now.words }
     {
         if self.is_complete() {
             self.majority()
