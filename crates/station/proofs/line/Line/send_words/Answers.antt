@@ -13,8 +13,8 @@ loop-slot-init g c =
     let l = c.args.self.now in
     let owner = owner_of c.args.plan.now.table in (
       search rules,
-      λ k h. absurd (omega arith),
-      λ k h. absurd (omega arith),
+      grind arith,
+      grind arith,
       sym (taken_none g.B.Bank.meaning owner (g.B.Bank.account c.args.bank.now)),
       sym (ap (λ rs. with_records rs l) (records_none owner 1 l.records)),
     )
