@@ -1,7 +1,8 @@
 -- A line in step with a sender stays so over a clean frame, and over any number of them.
-use Rattle.std.proofs.Common.{◌≡◌, ℕ, suc, ◌+◌, ◌-◌, ◌<◌, ◌≤◌, Bool, true, false, List, [], ◌∷◌, ◌++◌, map, get_or, replicate, IfSome, Some, None, Option, sym, refl, ap, ◌∙◌, subst, ap₂, ⊎_elim, arith}
-use lib.Bits.{bit_xor, xor_self, xor_zero_r}
-use Rattle.std.specs.List.{range_with_len, AllByRecursion}
+use Rattle.std.proofs.Common.{◌≡◌, ℕ, ◌-◌, ◌<◌, ◌≤◌, Bool, true, false, List, [], ◌∷◌, map, get_or, replicate, IfSome, Some, None, Option, sym, refl, ap, ◌∙◌, subst, ⊎_elim, arith}
+use native.Mathlib.Nat.{div-eq_of_lt}
+use lib.Bits.{xor_zero_r}
+use Rattle.std.specs.List.{AllByRecursion}
 use Rattle.std.proofs.lemmas.List.FromFn.{get_or-map-range_with_len, length-map-range_with_len}
 use Rattle.std.proofs.ByRecursion.{All-append}
 use Rattle.std.proofs.lemmas.List.{get_or_past, get_or-replicate}
@@ -9,226 +10,123 @@ use Rattle.std.proofs.lemmas.Bool.{cases_lt}
 use Rattle.bank.specs.Meaning.{Accounts, Meaning}
 use Rattle.frame.specs.declared.content.Content.{Content}
 use Rattle.frame.specs.declared.mode.Justification.{Justification}
-use Rattle.frame.specs.declared.mode.Justification.TheVariants.{Deleted, Unchanged, Added}
 use Rattle.frame.specs.declared.mode.Mode.{Mode}
 use Rattle.frame.specs.declared.mode.Mode.TheVariants.{Synchronous, Justified}
-use Rattle.frame.specs.Checks.{remainder}
-use Rattle.frame.specs.Frames.{frame, frame_bit}
-use Rattle.frame.specs.Modes.{frame_length}
+use Rattle.frame.specs.Frames.{frame}
 use Rattle.frame.proofs.Division.{remainder_is}
 use Rattle.reception.specs.declared.receiver.Conclusion.{Conclusion}
-use Rattle.reception.specs.declared.state.Progress.{Progress}
 use Rattle.reception.specs.declared.state.Receiver.{Receiver}
-use Rattle.reception.specs.declared.state.Reception.TheVariants.{Aligned}
 use Rattle.reception.specs.Checks.{checking}
 use Rattle.reception.specs.Progresses.{from}
-use Rattle.station.specs.declared.line.ChannelRecord.{ChannelRecord}
 use Rattle.station.specs.declared.line.Line.{Line}
 use Rattle.station.specs.Frames.{next_check, sent_frame}
-use Rattle.station.specs.Lines.{entry, fresh_record, next_bit}
-use Rattle.station.specs.Receiving.{events, faults_in, given, line_after, parts}
-use Rattle.station.specs.Sending.{Owners, content_of, records_for, slot_word, taken_for, word_at, words}
+use Rattle.station.specs.Lines.{entry, fresh_record}
+use Rattle.station.specs.Receiving.{events, faults_in, line_after, parts}
+use Rattle.station.specs.Sending.{Owners, content_of, word_at, words}
 use Rattle.station.proofs.Counted.{records_none}
 use Rattle.station.proofs.Pieces.{in_two}
-use Rattle.bearer.specs.InStep.{Alternates, Between, Channels, InStep, IsAlarm, Receives, StaysInStep}
-use Rattle.bearer.specs.Sent.{Allows, Sender, after_frame, after_frames, bits_sent, envelopes_sent, sent_slots}
-use Rattle.bearer.proofs.Clean.{bare_content, clean_rests, clean_shown, clean_stays, expected_next, is_clean, resting}
-use Rattle.bearer.proofs.Clean.{carried as expecting}
-use Rattle.bearer.proofs.Laden.{Valid, bare, laden, laden_state, laden_word, own_remainder, summed}
-use Rattle.bearer.proofs.Records.{Quiet, deliveries, faults_over, given_over, line_over, line_with, records_over}
-use Rattle.bearer.proofs.Runs.{Follows, begins, frame_after, frame_lt, frame_remainder, frame_shown, laden_bit, own_frame, receiver_after, shown, stays_over, turned, turned_state}
-use Rattle.bearer.proofs.Slots.{Slots, Synced, length_records, slots, word_lt}
+use Rattle.bearer.specs.InStep.{Between, Channels, InStep, IsAlarm, Receives, StaysInStep}
+use Rattle.bearer.specs.Sent.{Allows, Sender, after_frame, after_frames, bits_sent, envelopes_sent}
+use Rattle.bearer.proofs.Clean.{Clean, carried, clean_laden, clean_rests, clean_shown, clean_stays, expected_next, resting}
+use Rattle.bearer.proofs.Laden.{Valid, bare, check_front, laden, laden_word, own_remainder, progress_with, state_with, summed, sums_in, word_front}
+use Rattle.bearer.proofs.Records.{line_over}
+use Rattle.bearer.proofs.Runs.{frame_after, frame_remainder, frame_shown, leaves, receiver_after, shown}
+use Rattle.bearer.proofs.Slots.{Slots, length_records, slots}
 
--- ten bits fit a slot
-slot_lt : (m : Meaning) (f : Accounts) (rs : List ChannelRecord) (o : Option ℕ) → slot_word m f rs o < 1024
-slot_lt m f rs None = omega arith
-slot_lt m f rs (Some c) = word_lt _ _
-
-module _ (m : Meaning) (owner : Owners) (f : Accounts) (l : Line) (small : l.check < 65536) where
-  word_fits : (k : ℕ) → get_or (words m owner f l.records) k 0 < 1024
-  unfolding words word_at
-  word_fits k =
-      ⊎_elim
-      (λ h. subst (λ n. n < 1024) (sym (get_or-map-range_with_len (word_at m owner f l.records) 0 240 k k 0 h (omega arith))) (slot_lt m (taken_for m owner f k) (records_for owner l.records k) (owner k)))
-      (λ h. subst (λ n. n < 1024) (sym (get_or_past (words m owner f l.records) k 0 (omega (arith, length-map-range_with_len (word_at m owner f l.records) 0 240)))) (omega arith))
-      (cases_lt k 240)
-
-  pub valid_content : (j : Justification) → Valid (content_of m owner f l j)
-  valid_content j = record { check = small; word = word_fits }
-
--- a receiver between two frames, beside the bare one
+-- a frame with content c, received between two frames
 module _ (mode : Mode) (c : Content) (v : Valid c) where
-  rest_laden : (known : Bool) (n : ℕ) (a : Bool) (k t : ℕ) → laden mode c (resting (expecting known) n a k t) ≡ resting (summed c.check (expecting known)) n a k t
-  unfolding laden
-  rest_laden known n a k t = ap (λ (q : Progress). record { state = Aligned q n; alarm = a; errored = k; bits = t }) (sym (begins mode c c v v 0 (from 0 (checking true (expecting known))) refl))
+  begins : (e : Option ℕ) → laden mode c (from 0 (checking true e)) ≡ from 0 (checking true (summed c.check e))
+  unfolding word_front check_front own_remainder
+  begins e = rw (div-eq_of_lt (v.word 0), div-eq_of_lt v.check)
 
--- which of the two a receiver expects
-pub record Expecting (c : Content) (expected : Option ℕ) : Type 0 where
-  pub known : Bool
-  pub is : summed c.check (expecting known) ≡ expected
+  -- what is expected is nothing, or what the frame carries
+  expects : (o : Option ℕ) → IfSome o (λ e. e ≡ c.check) → (known : Bool) × (o ≡ summed c.check (carried known))
+  expects None h = (false, refl)
+  expects (Some e) h = (true, ap Some (h ∙ sym (xor_zero_r c.check)))
 
-expects : (c : Content) (o : Option ℕ) → IfSome o (λ e. e ≡ c.check) → Expecting c o
-expects c None h = record { known = false; is = refl }
-expects c (Some e) h = record { known = true; is = ap Some (xor_zero_r c.check ∙ sym h) }
+  -- what is expected after it is nothing, or its remainder
+  next_known : IfSome (summed (leaves mode c v) (expected_next mode c.blocked c.justification)) (λ e. e ≡ next_check mode (frame mode c))
+  next_known = grind (arith, frame_remainder mode c v)
 
-size : (j : Justification) → suc (frame_length j - 1) ≡ frame_length j
-size Deleted = refl
-size Unchanged = refl
-size Added = refl
+  pub record Received (x : Receiver) : Type 0 where
+    pub bare_shown : List (Option Conclusion)
+    pub shows : shown mode x (frame mode c) ≡ map (laden_word c) bare_shown
+    pub clean : Clean (λ k. 0) 0 bare_shown
+    pub between : Between (next_check mode (frame mode c)) (receiver_after mode x (frame mode c)).state
 
+  pub received : (x : Receiver) → Allows mode c.justification → Between c.check x.state → Received x
+  unfolding progress_with
+  received x allowed between =
+      let e = expects between.expected between.known in
+      let y = resting (carried e.0) between.wrong x.alarm x.errored x.bits in
+      let is : x ≡ progress_with (laden mode c) y = rw (begins (carried e.0), ← e.1, ← between.is) in
+      let stays = clean_stays between.wrong x.errored x.bits mode c.justification allowed e.0 c.blocked x.alarm in
+      record {
+        bare_shown = shown mode y (frame mode (bare c));
+        shows = ap (λ z. shown mode z (frame mode c)) is ∙ frame_shown mode c v y stays;
+        clean = clean_shown between.wrong x.errored x.bits mode c.justification allowed e.0 c.blocked x.alarm;
+        between = record {
+          expected = summed (leaves mode c v) (expected_next mode c.blocked c.justification);
+          wrong = 0;
+          is =
+              ap (λ z. (receiver_after mode z (frame mode c)).state) is ∙ ap (λ (z : Receiver). z.state) (frame_after mode c v y stays)
+              ∙ ap (state_with (sums_in 0 0 0 (leaves mode c v))) (clean_rests between.wrong x.errored x.bits mode c.justification allowed e.0 c.blocked x.alarm);
+          known = next_known;
+        };
+      }
+
+-- what a sender sends fits into a frame
 check_lt : (mode : Mode) (bits : List ℕ) → next_check mode bits < 65536
 check_lt Synchronous bits = (remainder_is bits).lower
 check_lt Justified bits = omega arith
 
-next_follows : (mode : Mode) (c : Content) → Valid c → Follows mode (next_check mode (frame mode c)) (bit_xor (own_remainder mode c (frame_length c.justification)) (remainder (frame mode (bare c))))
-next_follows Synchronous c v = frame_remainder Synchronous c v
-next_follows Justified c v = tt
+module _ (m : Meaning) (owner : Owners) (f : Accounts) (l : Line) where
+  word_is : (k : ℕ) → k < 240 → get_or (words m owner f l.records) k 0 ≡ word_at m owner f l.records k
+  unfolding words
+  word_is k h = get_or-map-range_with_len (word_at m owner f l.records) 0 240 k k 0 h (omega arith)
 
-next_known : (n k t : ℕ) (mode : Mode) (j : Justification) → Allows mode j → (blocked : Bool) (check : ℕ) → IfSome (summed check (summed (remainder (frame mode (bare_content blocked j))) (expected_next n k t mode blocked))) (λ e. e ≡ check)
-next_known n k t Synchronous Deleted never blocked check = absurd never
-next_known n k t Synchronous Unchanged ok blocked check = ap (bit_xor check) (xor_self (remainder (frame Synchronous (bare_content blocked Unchanged)))) ∙ xor_zero_r check
-next_known n k t Synchronous Added never blocked check = absurd never
-next_known n k t Justified j ok blocked check = tt
+  word_at_lt : (k : ℕ) → word_at m owner f l.records k < 1024
+  unfolding word_at
+  word_at_lt k = grind arith
 
--- a clean frame with content c, and what it leaves for one with content d
-module _ (mode : Mode) (c d : Content) (v : Valid c) (u : Valid d) (follows : Follows mode d.check (bit_xor (own_remainder mode c (frame_length c.justification)) (remainder (frame mode (bare c))))) (allowed : Allows mode c.justification) (x : Receiver) (between : Between c.check x.state) where
-  abbrev j : Justification
-  j = c.justification
-
-  expecting_is : Expecting c between.expected
-  expecting_is = expects c between.expected between.known
-
-  bare_receiver : Receiver
-  bare_receiver = resting (expecting expecting_is.known) between.wrong x.alarm x.errored x.bits
-
-  is_laden : x ≡ laden mode c bare_receiver
-  unfolding bare_receiver expecting_is
-  is_laden =
-      (λ i. record { state = between.is i; alarm = x.alarm; errored = x.errored; bits = x.bits })
-      ∙ ap (λ e. resting e between.wrong x.alarm x.errored x.bits) (sym expecting_is.is)
-      ∙ sym (rest_laden mode c v expecting_is.known between.wrong x.alarm x.errored x.bits)
-
-  abbrev bare_bits : List ℕ
-  bare_bits = map (frame_bit mode (bare c)) (range_with_len 0 (suc (frame_length j - 1)))
-
-  frame_bits : frame mode c ≡ map (laden_bit mode c (frame_bit mode (bare c))) (range_with_len 0 (suc (frame_length j - 1)))
-  unfolding frame
-  frame_bits = (λ i. map (λ p. own_frame mode c p i) (range_with_len 0 (frame_length j))) ∙ ap (λ n. map (laden_bit mode c (frame_bit mode (bare c))) (range_with_len 0 n)) (sym (size j))
-
-  whole : 0 + suc (frame_length j - 1) ≡ frame_length j
-  whole = omega (arith, size j)
-
-  stays_over_lem : stays_over mode (frame_bit mode (bare c)) bare_receiver 0 (frame_length j - 1) ≡ true
-  unfolding bare_receiver
-  stays_over_lem = clean_stays between.wrong x.errored x.bits mode j allowed expecting_is.known c.blocked x.alarm
-
-  after_frame_lem : receiver_after mode x (frame mode c) ≡ laden mode d (turned (remainder (frame mode (bare c))) (receiver_after mode bare_receiver bare_bits))
-  after_frame_lem =
-      ap₂ (receiver_after mode) is_laden frame_bits
-      ∙ frame_after mode c d v u (remainder (frame mode (bare c))) j follows (frame_bit mode (bare c)) (frame_lt mode (bare c)) (frame_length j - 1) 0 bare_receiver whole stays_over_lem
-
-  abbrev bare_shown : List (Option Conclusion)
-  bare_shown = shown mode bare_receiver bare_bits
-
-  frame_shows : shown mode x (frame mode c) ≡ map (laden_word c) bare_shown
-  frame_shows =
-      ap₂ (shown mode) is_laden frame_bits
-      ∙ frame_shown mode c d v u (remainder (frame mode (bare c))) j follows (frame_bit mode (bare c)) (frame_lt mode (bare c)) (frame_length j - 1) 0 bare_receiver whole stays_over_lem
-
-  frame_clean : is_clean j 0 bare_shown ≡ true
-  unfolding bare_receiver
-  frame_clean = clean_shown between.wrong x.errored x.bits mode j allowed expecting_is.known c.blocked x.alarm
-
-  bare_rests : (receiver_after mode bare_receiver bare_bits).state ≡ Aligned (from 0 (checking true (expected_next between.wrong x.errored x.bits mode c.blocked))) 0
-  unfolding bare_receiver frame
-  bare_rests = ap (λ n. (receiver_after mode bare_receiver (map (frame_bit mode (bare c)) (range_with_len 0 n))).state) (size j) ∙ clean_rests between.wrong x.errored x.bits mode j allowed expecting_is.known c.blocked x.alarm
-
-  next_between : Between d.check (receiver_after mode x (frame mode c)).state
-  unfolding laden turned
-  next_between =
-      let R = remainder (frame mode (bare c)) in
-      let E = expected_next between.wrong x.errored x.bits mode c.blocked in
-      record {
-        expected = summed d.check (summed R E);
-        wrong = 0;
-        is =
-            ap (λ (y : Receiver). y.state) after_frame_lem
-            ∙ ap (λ s. laden_state mode d (turned_state R s)) bare_rests
-            ∙ ap (λ (q : Progress). Aligned q 0) (sym (begins mode d d u u 0 (from 0 (checking true (summed R E))) refl));
-        known = next_known between.wrong x.errored x.bits mode j allowed c.blocked d.check;
-      }
+  word_fits : (k : ℕ) → get_or (words m owner f l.records) k 0 < 1024
+  unfolding words
+  word_fits k =
+      ⊎_elim (λ h. rw (word_is k h) (word_at_lt k))
+      (λ h. rw (get_or_past (words m owner f l.records) k 0 (omega (arith, length-map-range_with_len (word_at m owner f l.records) 0 240))) (omega arith)) (cases_lt k 240)
 
 -- one frame of a sender
 module _ (m : Meaning) (owner : Owners) (known : Channels owner) (s : Sender) (r : Line) (j : Justification) (allowed : Allows s.line.mode j) (so : InStep s.line r) where
-  abbrev f : Accounts
-  f = s.accounts
-
-  abbrev l : Line
-  l = s.line
-
-  abbrev mode : Mode
-  mode = s.line.mode
-
   abbrev c : Content
   c = content_of m owner s.accounts s.line j
-
-  abbrev next : Sender
-  next = after_frame m owner s j
-
-  abbrev d : Content
-  d = content_of m owner (after_frame m owner s j).accounts (after_frame m owner s j).line Unchanged
-
-  valid : Valid c
-  valid = valid_content m owner f l so.check j
-
-  small : next.line.check < 65536
-  small = check_lt mode (sent_frame m owner f l j)
-
-  next_valid : Valid d
-  next_valid = valid_content m owner next.accounts next.line small Unchanged
-
-  follows : Follows mode d.check (bit_xor (own_remainder mode c (frame_length j)) (remainder (frame mode (bare c))))
-  unfolding sent_frame
-  follows = next_follows mode c valid
 
   abbrev bits : List ℕ
   bits = sent_frame m owner s.accounts s.line j
 
-  shows_is : shown r.mode r.receiver bits ≡ map (laden_word c) (bare_shown mode c d valid next_valid follows allowed r.receiver so.state)
+  valid : Valid c
+  valid = record { check = so.check; word = word_fits m owner s.accounts s.line }
+
+  frame_received : Received s.line.mode c valid r.receiver
+  frame_received = received s.line.mode c valid r.receiver allowed so.state
+
+  all_slots : Slots m owner known s.accounts s.line.records so.sends 0 r bits
   unfolding sent_frame
-  shows_is = ap (λ t. shown t r.receiver bits) so.mode ∙ frame_shows mode c d valid next_valid follows allowed r.receiver so.state
+  all_slots =
+      let got = frame_received in
+      slots m owner known s.accounts s.line.records so.sends bits 0 r
+      (rw (so.mode, got.shows) (clean_laden c (word_at m owner s.accounts s.line.records) (word_is m owner s.accounts s.line) 0 got.bare_shown got.clean))
+      (record { long = so.receives; bits = rw (records_none owner 1 s.line.records) so.bits })
 
-  begins_synced : Synced m owner known f l.records so.sends 0 r.records
-  begins_synced = record {
-    long = so.receives;
-    bits = λ k h u. subst (λ rs. Alternates (next_bit rs k) (entry r.records (k - 1)).received) (sym (records_none owner 1 l.records)) (so.bits k h u);
-  }
-
-  all_slots : Slots m owner known f l.records so.sends c 0 r.records (bare_shown mode c d valid next_valid follows allowed r.receiver so.state)
-  all_slots = slots m owner known f l.records so.sends c refl j (bare_shown mode c d valid next_valid follows allowed r.receiver so.state) 0 r.records (frame_clean mode c d valid next_valid follows allowed r.receiver so.state) begins_synced
-
-  after_line : line_after owner r bits ≡ line_with owner r (records_over owner r.records (map (laden_word c) (bare_shown mode c d valid next_valid follows allowed r.receiver so.state))) (receiver_after mode r.receiver bits)
-  after_line = line_over owner bits r ∙ ap₂ (λ cs t. line_with owner r (records_over owner r.records cs) (receiver_after t r.receiver bits)) shows_is so.mode
-
-  in_step_with : (x : Line) → x ≡ line_with owner r (records_over owner r.records (map (laden_word c) (bare_shown mode c d valid next_valid follows allowed r.receiver so.state))) (receiver_after mode r.receiver bits) → InStep next.line x
-  unfolding line_with sent_frame
-  in_step_with x e = subst (InStep next.line) (sym e) (record {
+  pub keeps_step : InStep (after_frame m owner s j).line (line_after owner r bits)
+  unfolding sent_frame
+  keeps_step = subst (InStep (after_frame m owner s j).line) (sym (line_over owner bits r)) (record {
     mode = so.mode;
-    check = small;
-    state = next_between mode c d valid next_valid follows allowed r.receiver so.state;
-    sends = length_records owner 240 1 l.records ∙ so.sends;
+    check = check_lt s.line.mode bits;
+    state = rw (so.mode) frame_received.between;
+    sends = length_records owner 240 1 s.line.records ∙ so.sends;
     receives = all_slots.synced.long;
     bits = all_slots.synced.bits;
   })
-
-  pub keeps_step : InStep next.line (line_after owner r bits)
-  keeps_step = in_step_with (line_after owner r bits) after_line
-
-  pub gives_all : given owner r bits ≡ sent_slots m owner f
-  gives_all = given_over owner bits r ∙ ap (deliveries owner) shows_is ∙ all_slots.given
-
-  pub no_fault : AllByRecursion (λ x. IsAlarm x.kind) (faults_in owner r bits)
-  no_fault = faults_over owner bits r (subst (Quiet owner r.records) (sym shows_is) all_slots.quiet)
 
 -- frame after frame
 goes_on_lem : (m : Meaning) (owner : Owners) → Channels owner → (js : List Justification) (s : Sender) (r : Line) → AllByRecursion (Allows s.line.mode) js → InStep s.line r → Receives m owner s r js
@@ -239,15 +137,16 @@ goes_on_lem m owner known (j ∷ js) s r allowed so =
     let next = after_frame m owner s j in
     let more = bits_sent m owner next js in
     let two = in_two owner r bits more in
+    let here = all_slots m owner known s r j allowed.0 so in
     let rest = goes_on_lem m owner known js next (line_after owner r bits) allowed.1 (keeps_step m owner known s r j allowed.0 so) in
     record {
-      in_step = subst (InStep (after_frames m owner next js).line) (sym two.line) rest.in_step;
-      faults = subst (AllByRecursion (λ f. IsAlarm f.kind)) (sym two.recorded) (All-append (λ f. IsAlarm f.kind) (faults_in owner r bits) (faults_in owner (line_after owner r bits) more) (no_fault m owner known s r j allowed.0 so) rest.faults);
-      given = two.delivered ∙ ap₂ (λ xs ys. xs ++ ys) (gives_all m owner known s r j allowed.0 so) rest.given;
+      in_step = rw (two.line) rest.in_step;
+      faults = rw (two.recorded) (All-append (λ f. IsAlarm f.kind) (faults_in owner r bits) (faults_in owner (line_after owner r bits) more) here.quiet rest.faults);
+      given = rw (two.delivered, here.given, rest.given);
     }
 
 nothing_received : (c : ℕ) → 0 < c → c ≤ 80 → (entry (replicate 80 fresh_record) (c - 1)).received ≡ None
-nothing_received c h u = ap (λ (x : ChannelRecord). x.received) (get_or-replicate 80 (c - 1) fresh_record _ (omega arith))
+nothing_received c h u = rw (get_or-replicate 80 (c - 1) fresh_record _ (omega arith))
 
 pub stays : StaysInStep
 stays = record {
@@ -257,7 +156,7 @@ stays = record {
     state = record { expected = None; wrong = 0; is = refl; known = tt };
     sends = refl;
     receives = refl;
-    bits = λ c h u. subst (Alternates (next_bit (replicate 80 fresh_record) c)) (sym (nothing_received c h u)) tt;
+    bits = λ c h u. rw (nothing_received c h u) tt;
   };
   goes_on = λ m owner known s r js. goes_on_lem m owner known js s r;
 }

@@ -5,7 +5,7 @@ use lib.Bits.{bit_xor}
 use Rattle.frame.specs.declared.content.Content.{Content}
 use Rattle.frame.specs.declared.mode.Mode.{Mode}
 use Rattle.frame.specs.declared.padding.Padding.{Padding as Held}
-use Rattle.frame.specs.declared.padding.Padding.TheVariants.{Alarm, One, Check, Pattern, Number, Service, Zero}
+use Rattle.frame.specs.declared.padding.Padding.TheVariants.{Check}
 use Rattle.frame.specs.declared.place.Role.{Role}
 use Rattle.frame.specs.declared.place.Role.TheVariants.{Padding, Payload, Added}
 use Rattle.frame.specs.Checks.{divide}
@@ -13,11 +13,11 @@ use Rattle.frame.specs.Frames.{sent_bit}
 use Rattle.frame.specs.Paddings.{padding}
 use Rattle.frame.specs.Places.{role}
 use Rattle.reception.specs.declared.receiver.Conclusion.{Conclusion}
-use Rattle.reception.specs.declared.receiver.Conclusion.TheVariants.{Word, Fault, Justification}
+use Rattle.reception.specs.declared.receiver.Conclusion.TheVariants.{Word}
 use Rattle.reception.specs.declared.state.Progress.{Progress}
 use Rattle.reception.specs.declared.state.Receiver.{Receiver}
 use Rattle.reception.specs.declared.state.Reception.{Reception}
-use Rattle.reception.specs.declared.state.Reception.TheVariants.{Hunting, Pending, Proving, Aligned}
+use Rattle.reception.specs.declared.state.Reception.TheVariants.{Aligned}
 use Rattle.reception.specs.Steps.{with_state}
 use Rattle.bearer.proofs.Places.{bit_at, checks, slot_at}
 
@@ -30,20 +30,15 @@ pub record Valid (c : Content) : Type 0 where
   pub check : c.check < 65536
   pub word : (k : ℕ) → get_or c.words k 0 < 1024
 
--- what a bit holds of the words and the check
-abbrev pub own_padding : Content → Held → ℕ
-own_padding c Alarm = 0
-own_padding c One = 0
-own_padding c (Check k) = sent_bit 16 c.check k
-own_padding c (Pattern j) = 0
-own_padding c (Number j) = 0
-own_padding c (Service j) = 0
-own_padding c Zero = 0
+-- the bit of the frame, where b is that of the bare frame
+abbrev pub laden_padding : Content → Held → ℕ → ℕ
+laden_padding c (Check k) b = bit_xor (sent_bit 16 c.check k) b
+laden_padding c _ b = b
 
-abbrev pub own_bit : Mode → Content → Role → ℕ
-own_bit mode c (Padding s i) = own_padding c (padding mode s i)
-own_bit mode c (Payload k j) = sent_bit 10 (get_or c.words k 0) j
-own_bit mode c Added = 0
+abbrev pub laden_bit : Mode → Content → Role → ℕ → ℕ
+laden_bit mode c (Padding s i) b = laden_padding c (padding mode s i) b
+laden_bit mode c (Payload k j) b = bit_xor (sent_bit 10 (get_or c.words k 0) j) b
+laden_bit mode c Added b = b
 
 -- the front of the slot that place p stands in, the front of the check, and the remainder of what stands before it
 unfoldable pub word_front : Content → ℕ → ℕ
@@ -54,7 +49,7 @@ check_front c p = c.check / 2 ^ (16 - checks (p / 16))
 
 unfoldable pub own_remainder : Mode → Content → ℕ → ℕ
 own_remainder mode c zero = 0
-own_remainder mode c (suc p) = divide (own_remainder mode c p) (own_bit mode c (role p))
+own_remainder mode c (suc p) = divide (own_remainder mode c p) (laden_bit mode c (role p) 0)
 
 abbrev pub summed : ℕ → Option ℕ → Option ℕ
 summed n None = None
@@ -75,24 +70,18 @@ sums_in w k r e q = record {
   };
 }
 
-abbrev pub laden_at : Mode → Content → ℕ → Progress → Progress
-laden_at mode c p q = sums_in (word_front c p) (check_front c p) (own_remainder mode c p) c.check q
+abbrev pub laden : Mode → Content → Progress → Progress
+laden mode c q = sums_in (word_front c q.place) (check_front c q.place) (own_remainder mode c q.place) c.check q
 
-abbrev pub laden_progress : Mode → Content → Progress → Progress
-laden_progress mode c q = laden_at mode c q.place q
+-- an aligned receiver with f of its progress
+abbrev pub state_with : (Progress → Progress) → Reception → Reception
+state_with f (Aligned q n) = Aligned (f q) n
+state_with f s = s
 
-abbrev pub laden_state : Mode → Content → Reception → Reception
-laden_state mode c (Hunting h) = Hunting h
-laden_state mode c (Pending w) = Pending w
-laden_state mode c (Proving q) = Proving q
-laden_state mode c (Aligned q n) = Aligned (laden_progress mode c q) n
-
-unfoldable pub laden : Mode → Content → Receiver → Receiver
-laden mode c x = with_state (laden_state mode c x.state) x
+unfoldable pub progress_with : (Progress → Progress) → Receiver → Receiver
+progress_with f x = with_state (state_with f x.state) x
 
 -- what is concluded of the frame, where this is concluded of the bare one
 unfoldable pub laden_word : Content → Option Conclusion → Option Conclusion
-laden_word c None = None
 laden_word c (Some (Word k w)) = Some (Word k (bit_xor (get_or c.words k 0) w))
-laden_word c (Some (Fault f)) = Some (Fault f)
-laden_word c (Some (Justification told)) = Some (Justification told)
+laden_word c o = o

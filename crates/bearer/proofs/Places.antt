@@ -1,11 +1,10 @@
 -- What each role says of its place: how many payload bits and how many check bits stand before it, and after it.
-use Rattle.std.proofs.Common.{◌≡◌, ℕ, ◌+◌, ◌-◌, ◌*◌, ◌/◌, ◌%◌, ◌<◌, min, eqb, ltb, refl, arith}
-use Rattle.std.proofs.lemmas.Bool.{cond_both, eqb-false, eqb-true}
+use Rattle.std.proofs.Common.{◌≡◌, ℕ, ◌+◌, ◌-◌, ◌*◌, ◌/◌, ◌%◌, ◌<◌, ◌≤◌, min, eqb, ltb, arith}
+use Rattle.std.proofs.lemmas.Bool.{cond_both, eqb-false, eqb-true, ltb-false, ltb-true}
 use Rattle.std.proofs.lemmas.Bool.Decides.{nat_tests}
 use Rattle.frame.specs.declared.mode.Mode.{Mode}
-use Rattle.frame.specs.declared.mode.Mode.TheVariants.{Synchronous, Justified}
 use Rattle.frame.specs.declared.padding.Padding.{Padding as Held}
-use Rattle.frame.specs.declared.padding.Padding.TheVariants.{Alarm, One, Check, Pattern, Number, Service, Zero}
+use Rattle.frame.specs.declared.padding.Padding.TheVariants.{Check, Service}
 use Rattle.frame.specs.declared.place.Role.{Role}
 use Rattle.frame.specs.declared.place.Role.TheVariants.{Padding, Payload, Added}
 use Rattle.frame.specs.Paddings.{padding}
@@ -26,13 +25,9 @@ checks q = q / 40 * 4 + min 4 (q % 40 - 4)
 
 -- of padding bit q
 abbrev pub Padded : ℕ → Held → Type 0
-Padded q Alarm = checks (q + 1) ≡ checks q
-Padded q One = checks (q + 1) ≡ checks q
 Padded q (Check k) = (checks q ≡ k) × (checks (q + 1) ≡ k + 1) × (k < 16)
-Padded q (Pattern j) = checks (q + 1) ≡ checks q
-Padded q (Number j) = checks (q + 1) ≡ checks q
 Padded q (Service j) = (checks (q + 1) ≡ checks q) × (q < 159)
-Padded q Zero = checks (q + 1) ≡ checks q
+Padded q _ = checks (q + 1) ≡ checks q
 
 pub record InPayload (p k j : ℕ) : Type 0 where
   pub slot : slot_at p ≡ k
@@ -51,41 +46,17 @@ pub record InPadding (p : ℕ) (h : Held) : Type 0 where
 abbrev pub Place : Mode → ℕ → Role → Type 0
 Place mode p (Padding s i) = InPadding p (padding mode s i)
 Place mode p (Payload k j) = InPayload p k j
-Place mode p Added = ⊥
-
-padding_fits : (mode : Mode) (q : ℕ) → q < 160 → Padded q (padding mode (q / 40 + 1) (q % 40 + 1))
-padding_fits Synchronous q h = grind (arith, nat_tests)
-padding_fits Justified q h = grind (arith, nat_tests)
-
--- a bit further in its slot, or on to the next
-same_slot : (m n : ℕ) → n ≡ m + 1 → m % 10 < 9 → n / 10 ≡ m / 10
-same_slot m n e h = omega arith
-
-next_bit : (m n : ℕ) → n ≡ m + 1 → m % 10 < 9 → n % 10 ≡ m % 10 + 1
-next_bit m n e h = omega arith
-
-next_slot : (m n : ℕ) → n ≡ m + 1 → m % 10 ≡ 9 → n % 10 ≡ 0
-next_slot m n e h = omega arith
+Place mode p Added = 2560 ≤ p
 
 inside : (p : ℕ) → (p % 16 ≡ 15 → ⊥) → InPayload p (slot_at p) (bit_at p)
-inside p h =
-    let more : payloads (p + 1) ≡ payloads p + 1 = omega arith in
-    record {
-      slot = refl;
-      bit = refl;
-      small = omega arith;
-      same = λ e. same_slot (payloads p) (payloads (p + 1)) more e;
-      next = λ e. next_bit (payloads p) (payloads (p + 1)) more e;
-      start = λ e. next_slot (payloads p) (payloads (p + 1)) more e;
-      row = omega arith;
-    }
+inside p h = let more : payloads (p + 1) ≡ payloads p + 1 = omega arith in grind arith
 
 beside : (mode : Mode) (p : ℕ) → p < 2560 → p % 16 ≡ 15 → InPadding p (padding mode (p / 16 / 40 + 1) (p / 16 % 40 + 1))
-beside mode p below h = record { row = omega arith; kept = omega arith; padded = padding_fits mode (p / 16) (omega arith) }
+beside mode p below h = grind (arith, nat_tests)
 
-pub place : (mode : Mode) (p : ℕ) → p < 2560 → Place mode p (role p)
-place mode p below =
+pub place : (mode : Mode) (p : ℕ) → Place mode p (role p)
+place mode p =
     cond_both (ltb p 2560) _ Added (Place mode p)
-    (λ _. cond_both (eqb (p % 16) 15) (Padding (p / 16 / 40 + 1) (p / 16 % 40 + 1)) (Payload (slot_at p) (bit_at p)) (Place mode p)
-    (λ e. beside mode p below (eqb-true (p % 16) 15 e)) (λ e. inside p (eqb-false (p % 16) 15 e)))
-    (λ e. absurd (grind (arith, nat_tests)))
+    (λ below. cond_both (eqb (p % 16) 15) (Padding (p / 16 / 40 + 1) (p / 16 % 40 + 1)) (Payload (slot_at p) (bit_at p)) (Place mode p)
+    (λ e. beside mode p (ltb-true p 2560 below) (eqb-true (p % 16) 15 e)) (λ e. inside p (eqb-false (p % 16) 15 e)))
+    (ltb-false p 2560)

@@ -6,6 +6,7 @@ ghost use Rattle.bearer.specs.InStep.{StaysInStep};
 
 /// Two placed stations are in step, and a station in step with a sender stays so over any number of clean frames: it
 /// is aligned, records no fault but of the far alarm, and gives every envelope as it was sent.
+#[tactic(auto, using(crate::proofs::Kept::stays))]
 pub fn stays_in_step() -> bool
     ensures law { StaysInStep }
     ensures answer { result ≡ true }

@@ -1,6 +1,3 @@
-pub mod Bits
 pub mod Counted
-pub mod Fresh
 pub mod Pieces
 pub mod Runs
-pub mod Whole

@@ -1,6 +1,6 @@
 -- A run received in two pieces is the run received whole.
-use Rattle.std.proofs.Common.{◌≡◌, ℕ, List, [], ◌∷◌, ◌++◌, fold, Option, sym, refl, ap, ◌∙◌, append_assoc}
-use Rattle.std.specs.Option.{option_to_list}
+use Rattle.std.proofs.Common.{◌≡◌, ℕ, List, [], ◌∷◌, ◌++◌, Option, refl, ap, ◌∙◌, append_assoc}
+use Rattle.std.proofs.lemmas.Grind.{fold-append}
 use Rattle.station.specs.declared.event.Event.{Event}
 use Rattle.station.specs.declared.line.Line.{Line}
 use Rattle.station.specs.Faults.{noted}
@@ -9,14 +9,10 @@ use Rattle.station.specs.Pieces.{InTwo, Pieces}
 use Rattle.station.specs.Receiving.{events, faults_in, given, line_after, parts}
 use Rattle.station.specs.Sending.{Owners}
 
-folded_append : {A B : Type 0} (g : A → B → A) (a : A) (xs ys : List B) → fold g a (xs ++ ys) ≡ fold g (fold g a xs) ys
-folded_append g a [] ys = refl
-folded_append g a (x ∷ xs) ys = folded_append g (g a x) xs ys
-
 parts_append : {A : Type 0} (of : Event → Option A) (es fs : List Event) → parts of (es ++ fs) ≡ parts of es ++ parts of fs
 unfolding parts
 parts_append of [] fs = refl
-parts_append of (e ∷ es) fs = ap (λ xs. option_to_list (of e) ++ xs) (parts_append of es fs) ∙ sym (append_assoc (option_to_list (of e)) (parts of es) (parts of fs))
+parts_append of (e ∷ es) fs = rw (parts_append of es fs, append_assoc)
 
 module _ (owner : Owners) where
   line_append : (xs ys : List ℕ) (l : Line) → line_after owner l (xs ++ ys) ≡ line_after owner (line_after owner l xs) ys
@@ -39,8 +35,8 @@ module _ (owner : Owners) where
         concluded = both;
         delivered = deliveries;
         recorded = faults;
-        accounts = λ m f. ap (fold (given_to m) f) deliveries ∙ folded_append (given_to m) f (given owner l xs) (given owner (line_after owner l xs) ys);
-        told = λ t. ap (fold noted t) faults ∙ folded_append noted t (faults_in owner l xs) (faults_in owner (line_after owner l xs) ys);
+        accounts = λ m f. rw deliveries (fold-append (given_to m) f (given owner l xs) (given owner (line_after owner l xs) ys));
+        told = λ t. rw faults (fold-append noted t (faults_in owner l xs) (faults_in owner (line_after owner l xs) ys));
       }
 
   pub in_pieces : (l : Line) (run : List ℕ) → Pieces owner l run

@@ -1,7 +1,7 @@
--- A run of bits, some of them received: what is left of it gives what the whole run gives.
-use Rattle.std.proofs.Common.{◌≡◌, ℕ, ◌+◌, ◌<◌, ◌≤◌, Bool, true, false, cond, List, ◌++◌, length, get_or, drop, is_some, Some, None, Option, sym, refl, ap, ◌∙◌, arith}
+-- What the bits received so far of a run have left.
+use Rattle.std.proofs.Common.{◌≡◌, ℕ, ◌+◌, ◌<◌, ◌≤◌, List, [], ◌∷◌, ◌++◌, length, get_or, take, is_some, Option, sym, refl, arith}
 use Rattle.std.specs.Option.{option_to_list}
-use Rattle.std.proofs.lemmas.List.{drop_more, drop_all}
+use Rattle.std.proofs.lemmas.List.{length-append, take_more}
 use Rattle.bank.specs.Meaning.{Accounts, Meaning}
 use Rattle.station.specs.declared.event.Delivery.{Delivery}
 use Rattle.station.specs.declared.event.Fault.{Fault}
@@ -9,93 +9,40 @@ use Rattle.station.specs.declared.line.Line.{Line}
 use Rattle.station.specs.Faults.{Told}
 use Rattle.station.specs.Hearing.{event, given_if, noted_if, stepped_line}
 use Rattle.station.specs.Receiving.{events, faults_in, give_all, given, line_after, note_all, parts}
-use Rattle.station.specs.Sending.{Owners}
-
-give_front : (m : Meaning) (f : Accounts) (o : Option Delivery) (ds : List Delivery) → give_all m f (option_to_list o ++ ds) ≡ give_all m (given_if m o f) ds
-give_front m f None ds = refl
-give_front m f (Some d) ds = refl
-
-note_front : (t : Told) (o : Option Fault) (fs : List Fault) → note_all t (option_to_list o ++ fs) ≡ note_all (noted_if o t) fs
-note_front t None fs = refl
-note_front t (Some f) fs = refl
-
-abbrev pub one_if : Bool → ℕ
-one_if b = cond b 1 0
-
-count_front : (o : Option Delivery) (ds : List Delivery) → length (option_to_list o ++ ds) ≡ one_if (is_some o) + length ds
-count_front None ds = omega arith
-count_front (Some d) ds = omega arith
+use Rattle.station.specs.Sending.{Owners, one_if}
+use Rattle.station.proofs.Pieces.{in_two}
 
 pub record Going (owner : Owners) (m : Meaning) (xs : List ℕ) (l₀ : Line) (f₀ : Accounts) (t₀ : Told) (l : Line) (f : Accounts) (t : Told) (n i : ℕ) : Type 0 where
-  pub line : line_after owner l (drop i xs) ≡ line_after owner l₀ xs
-  pub accounts : give_all m f (given owner l (drop i xs)) ≡ give_all m f₀ (given owner l₀ xs)
-  pub faults : note_all t (faults_in owner l (drop i xs)) ≡ note_all t₀ (faults_in owner l₀ xs)
-  pub count : n + length (given owner l (drop i xs)) ≡ length (given owner l₀ xs)
+  pub line : l ≡ line_after owner l₀ (take i xs)
+  pub accounts : f ≡ give_all m f₀ (given owner l₀ (take i xs))
+  pub faults : t ≡ note_all t₀ (faults_in owner l₀ (take i xs))
+  pub count : n ≡ length (given owner l₀ (take i xs))
   pub few : n ≤ i
 
-module _ (owner : Owners) (m : Meaning) (xs : List ℕ) (l₀ : Line) (f₀ : Accounts) (t₀ : Told) where
-  pub going_none : Going owner m xs l₀ f₀ t₀ l₀ f₀ t₀ 0 0
-  going_none = record { line = refl; accounts = refl; faults = refl; count = omega arith; few = omega arith }
+module _ (o : Option Delivery) where
+  give_one : (m : Meaning) (f : Accounts) → give_all m f (option_to_list o ++ []) ≡ given_if m o f
+  give_one m f = grind arith
 
-  module _ (l : Line) (f : Accounts) (t : Told) (n i : ℕ) (so : Going owner m xs l₀ f₀ t₀ l f t n i) where
-    -- at the end
-    module _ (all : length xs ≤ i) where
-      pub end_line : l ≡ line_after owner l₀ xs
-      unfolding line_after
-      end_line = sym (ap (line_after owner l) (drop_all i xs all)) ∙ so.line
+  count_one : length (option_to_list o ++ []) ≡ one_if (is_some o)
+  count_one = grind arith
 
-      pub end_accounts : f ≡ give_all m f₀ (given owner l₀ xs)
-      unfolding events parts
-      end_accounts = sym (ap (λ bs. give_all m f (given owner l bs)) (drop_all i xs all)) ∙ so.accounts
+note_one : (o : Option Fault) (t : Told) → note_all t (option_to_list o ++ []) ≡ noted_if o t
+note_one o t = grind arith
 
-      pub end_faults : t ≡ note_all t₀ (faults_in owner l₀ xs)
-      unfolding events parts
-      end_faults = sym (ap (λ bs. note_all t (faults_in owner l bs)) (drop_all i xs all)) ∙ so.faults
+pub going_none : (owner : Owners) (m : Meaning) (xs : List ℕ) (l : Line) (f : Accounts) (t : Told) → Going owner m xs l f t l f t 0 0
+unfolding line_after events parts
+going_none owner m xs l f t = record { line = refl; accounts = refl; faults = refl; count = refl; few = omega arith }
 
-      pub end_count : n ≡ length (given owner l₀ xs)
-      unfolding events parts
-      end_count = let e : length (given owner l (drop i xs)) ≡ 0 = ap (λ bs. length (given owner l bs)) (drop_all i xs all) in omega (arith, so.count)
-
-    -- one bit more
-    module _ (inside : i < length xs) (l' : Line) (f' : Accounts) (t' : Told) (n' : ℕ) (line : l' ≡ stepped_line owner l (get_or xs i 0)) (accounts : f' ≡ given_if m (event owner l (get_or xs i 0)).given f) (faults : t' ≡ noted_if (event owner l (get_or xs i 0)).fault t) (count : n' ≡ n + one_if (is_some (event owner l (get_or xs i 0)).given)) where
-      abbrev b : ℕ
-      b = get_or xs i 0
-
-      abbrev rest : List ℕ
-      rest = drop (i + 1) xs
-
-      more_line : line_after owner l' rest ≡ line_after owner l₀ xs
-      unfolding line_after
-      more_line = ap (λ x. line_after owner x rest) line ∙ sym (ap (line_after owner l) (drop_more xs i 0 inside)) ∙ so.line
-
-      more_given : given owner l (drop i xs) ≡ option_to_list (event owner l b).given ++ given owner l' rest
-      unfolding events parts
-      more_given = ap (given owner l) (drop_more xs i 0 inside) ∙ ap (λ x. option_to_list (event owner l b).given ++ given owner x rest) (sym line)
-
-      more_noted : faults_in owner l (drop i xs) ≡ option_to_list (event owner l b).fault ++ faults_in owner l' rest
-      unfolding events parts
-      more_noted = ap (faults_in owner l) (drop_more xs i 0 inside) ∙ ap (λ x. option_to_list (event owner l b).fault ++ faults_in owner x rest) (sym line)
-
-      more_accounts : give_all m f' (given owner l' rest) ≡ give_all m f₀ (given owner l₀ xs)
-      more_accounts = ap (λ x. give_all m x (given owner l' rest)) accounts ∙ sym (give_front m f (event owner l b).given (given owner l' rest)) ∙ sym (ap (give_all m f) more_given) ∙ so.accounts
-
-      more_faults : note_all t' (faults_in owner l' rest) ≡ note_all t₀ (faults_in owner l₀ xs)
-      more_faults = ap (λ x. note_all x (faults_in owner l' rest)) faults ∙ sym (note_front t (event owner l b).fault (faults_in owner l' rest)) ∙ sym (ap (note_all t) more_noted) ∙ so.faults
-
-      more_count : n' + length (given owner l' rest) ≡ length (given owner l₀ xs)
-      more_count =
-          let e : length (given owner l (drop i xs)) ≡ one_if (is_some (event owner l b).given) + length (given owner l' rest) = ap length more_given ∙ count_front (event owner l b).given (given owner l' rest) in
-          omega (arith, so.count, count)
-
-      one_at_most : (x : Bool) → one_if x ≤ 1
-      one_at_most true = omega arith
-      one_at_most false = omega arith
-
-      pub going_more : Going owner m xs l₀ f₀ t₀ l' f' t' n' (i + 1)
-      going_more = record {
-        line = more_line;
-        accounts = more_accounts;
-        faults = more_faults;
-        count = more_count;
-        few = omega (arith, so.few, count, one_at_most (is_some (event owner l b).given));
-      }
+pub going_more : (owner : Owners) (m : Meaning) (xs : List ℕ) (l₀ : Line) (f₀ : Accounts) (t₀ : Told) (l : Line) (f : Accounts) (t : Told) (n i : ℕ) → i < length xs → Going owner m xs l₀ f₀ t₀ l f t n i
+    → Going owner m xs l₀ f₀ t₀ (stepped_line owner l (get_or xs i 0)) (given_if m (event owner l (get_or xs i 0)).given f) (noted_if (event owner l (get_or xs i 0)).fault t) (n + one_if (is_some (event owner l (get_or xs i 0)).given)) (i + 1)
+unfolding line_after events parts
+going_more owner m xs l₀ f₀ t₀ l f t n i inside so =
+    let b = get_or xs i 0 in
+    let two = in_two owner l₀ (take i xs) (b ∷ []) in
+    record {
+      line = rw (take_more xs i 0 inside, two.line, so.line);
+      accounts = rw (take_more xs i 0 inside, two.accounts m f₀, ← so.accounts, ← so.line) (sym (give_one (event owner l b).given m f));
+      faults = rw (take_more xs i 0 inside, two.told t₀, ← so.faults, ← so.line) (sym (note_one (event owner l b).fault t));
+      count = rw (take_more xs i 0 inside, two.delivered, length-append, ← so.count, ← so.line, count_one);
+      few = grind (arith, so.few);
+    }

@@ -1,9 +1,11 @@
-use Rattle.std.proofs.Common.{rules, arith}
-use Rattle.station.proofs.Bits.{bits_from, bits_not}
+use Rattle.std.proofs.Common.{ltb, refl, arith}
+use Rattle.std.proofs.lemmas.Bool.Decides.{nat_tests}
+use Rattle.std.proofs.lemmas.List.Recursion.{and_fails_at, and_from_places}
+use Rattle.station.specs.Receiving.{only_bits}
 use Rattle.station.proofs.receive.judge.Goals as goal
 
 pub returns-then-byte-gt1 : goal.returns-then-byte-gt1
-returns-then-byte-gt1 c = let no = bits_not c.args.run.now c.loop-byte.byte-index c.loop-byte-test.true c.if-byte-gt1.true in search rules
+returns-then-byte-gt1 c = grind (arith, nat_tests, and_fails_at only_bits (λ b. ltb b 2) refl (λ _ _. refl))
 
 pub returns : goal.returns
-returns c = let all = bits_from c.args.run.now (λ k h. c.loop-byte.invariant k (omega arith)) in search rules
+returns c = grind (arith, nat_tests, and_from_places only_bits (λ b. ltb b 2) refl (λ _ _. refl) c.args.run.now 0, c.loop-byte.invariant)
