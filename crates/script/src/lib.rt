@@ -1,0 +1,14 @@
+// Scripts of the programs that compare a station with a model: cases of lines, each a word and its numbers.
+#![tactic(auto)]
+
+mod banks;
+mod cases;
+mod plans;
+mod program;
+mod words;
+
+pub use banks::{SILENT, with_bank};
+pub use cases::each_case;
+pub use plans::{busy_plan, plan_of};
+pub use program::run;
+pub use words::{mode_of, number, word};
