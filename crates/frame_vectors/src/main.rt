@@ -14,7 +14,7 @@ use pattern_bank::PatternBank;
 use queue_bank::{MEMORY, QueueBank};
 use script::{SILENT, number, word};
 use station::Station;
-use std::alloc::Global;
+use std::alloc::{AllocError, Global};
 
 // What a line of a case asks for.
 enum Command {
@@ -42,12 +42,10 @@ impl Command {
 }
 
 // The bits of a frame as text.
-fn frame_text(heap: Global, bits: &[u8]) -> anyhow::Result<String> {
-    let mut text = String::from_str(heap, "frame ")?;
-    for bit in bits {
-        text.push(if *bit == 1 { '1' } else { '0' })?;
-    }
-    Ok(text)
+fn text_of(heap: Global, bits: &[u8]) -> Result<String, AllocError> {
+    bits.iter()
+        .map(|bit| if *bit == 1 { '1' } else { '0' })
+        .collect(heap)
 }
 
 // Sends a frame, and prints it.
@@ -59,9 +57,8 @@ fn send<B: Bank>(
     let mut buffer = [0; LONGEST];
     match station.send(justification, &mut buffer) {
         Ok(length) => {
-            if let Some(bits) = buffer.get(..length) {
-                rt.println(frame_text(rt.alloc(), bits)?)?;
-            }
+            let bits = text_of(rt.alloc(), &buffer[..length])?;
+            println!(rt; "frame {bits}")?;
         }
         Err(refusal) => println!(rt; "{refusal}")?,
     }
@@ -69,16 +66,15 @@ fn send<B: Bank>(
 }
 
 // Plays one case over a bank; the other is for the time of an offer.
+// The bank is of any kind, since no proof is made of a function that names a station over a bank that lends memory.
 fn play_over<B: Bank + Drop>(
     rt: &HostRuntime,
     lines: &[String],
     bank: B,
     mut other: B,
 ) -> anyhow::Result<()> {
-    let mode = lines
-        .first()
-        .map_or(Mode::Synchronous, |line| script::mode_of(line.as_str()));
-    let mut station = Station::placed(script::plan_of(lines), bank, 1, mode);
+    let plan = script::plan_of(lines);
+    let mut station = Station::placed(plan, bank, 1, script::mode_of(lines));
     for line in lines {
         rt.println(line.as_str())?;
         match Command::parse(line.as_str()) {

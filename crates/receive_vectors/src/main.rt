@@ -31,9 +31,8 @@ struct Sum {
 // A station as the first line of a case, `case NAME MODE START`, says.
 fn station_of<B: Bank>(lines: &[String], bank: B) -> Station<B> {
     let plan = script::plan_of(lines);
-    let first = lines.first().map_or("", |line| line.as_str());
-    let mode = script::mode_of(first);
-    match word(first, 3) {
+    let mode = script::mode_of(lines);
+    match lines.first().and_then(|line| word(line.as_str(), 3)) {
         Some("hunting") => Station::hunting(plan, bank, 1, mode),
         _ => Station::placed(plan, bank, 1, mode),
     }
@@ -82,7 +81,7 @@ struct Pair<B> {
 impl<B: Bank + Drop> Pair<B> {
     // Prints the envelope that was given to the second station.
     fn print_given(&mut self, rt: &HostRuntime) -> anyhow::Result<()> {
-        let given = script::with_bank(&mut self.bitwise, &mut self.other, |bank| collect_any(bank));
+        let given = script::with_bank(&mut self.bitwise, &mut self.other, collect_any);
         if let Some(delivery) = given {
             println!(rt; "given {delivery}")?;
         }
@@ -139,6 +138,7 @@ impl<B: Bank + Drop> Pair<B> {
 }
 
 // Plays one case over two banks; the third is for the time of a collection.
+// The banks are of any kind, since no proof is made of a function that names a station over a bank that lends memory.
 fn play_over<B: Bank + Drop>(
     rt: &HostRuntime,
     lines: &[String],

@@ -1,22 +1,31 @@
--- The cases of a script: each but the first begins at a line `case ..`.
-use Rattle.std.specs.Prelude.{◌≡◌, ℕ, Bool, cond, ◌⊎◌, List, [], ◌∷◌, codes, Ok, Result, IsErr}
+-- The cases of a script, and what it is to play them.
+use Rattle.std.specs.Prelude.{◌≡◌, Bool, cond, ◌⊎◌, List, [], ◌∷◌, codes, Ok, Result, IsErr, String, string_bytes}
 use Rattle.std.specs.Fn.{CalledAt, Mut}
 use Rattle.std.specs.List.{onto_first}
 use denote.Ref.{Bor}
+use Rattle.frame.specs.declared.Mode.{Mode}
+use Rattle.frame.specs.declared.Mode.TheVariants.{Synchronous, Justified}
 use Rattle.script.specs.Words.{is_word, word_at}
 
-unfoldable pub begins_case : List ℕ → Bool
-begins_case line = is_word (word_at line 0) (codes "case")
+-- a case begins at a line `case ..`
+unfoldable pub begins : {Z : Type 0} → String Z → Bool
+begins line = is_word (word_at (string_bytes line) 0) (codes "case")
 
-module _ {X : Type 0} (begins : X → Bool) where
+module _ {Z : Type 0} where
   -- a line in front of the cases of those after it
-  abbrev pub before : X → List X → List (List X) → List (List X)
-  before x [] cs = (x ∷ []) ∷ []
-  before x (y ∷ ys) cs = cond (begins y) ((x ∷ []) ∷ cs) (onto_first x cs)
+  abbrev pub before : String Z → List (String Z) → List (List (String Z)) → List (List (String Z))
+  before line [] cs = (line ∷ []) ∷ []
+  before line (next ∷ lines) cs = cond (begins next) ((line ∷ []) ∷ cs) (onto_first line cs)
 
-  abbrev pub cases : List X → List (List X)
+  -- the first case begins at the first line
+  abbrev pub cases : List (String Z) → List (List (String Z))
   cases [] = []
-  cases (x ∷ xs) = before x xs (cases xs)
+  cases (line ∷ lines) = before line lines (cases lines)
+
+  -- the mode of a case whose first line is `case NAME MODE ..`
+  abbrev pub mode_of : List (String Z) → Mode
+  mode_of [] = Synchronous
+  mode_of (line ∷ lines) = cond (is_word (word_at (string_bytes line) 2) (codes "justified")) Justified Synchronous
 
 -- it was called at each of the cases in turn, up to the first that it refused, whose error is the answer
 module _ {F C E : Type 0} (g : Mut F (Bor C × Unit {0}) (Result Unit E)) where

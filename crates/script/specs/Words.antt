@@ -1,10 +1,8 @@
 -- The words of a line, which single spaces separate, and what they say.
-use Rattle.std.specs.Prelude.{ℕ, Bool, false, cond, List, codes, Some, None, Option, ◌==◌, slice_get}
+use Rattle.std.specs.Prelude.{ℕ, Bool, false, List, Some, None, Option, ◌==◌, slice_get}
 use Rattle.std.specs.List.{slice_split}
 use Rattle.std.specs.Option.{unwrap_or}
 use Rattle.std.specs.Str.{bytes_eq}
-use Rattle.frame.specs.declared.Mode.{Mode}
-use Rattle.frame.specs.declared.Mode.TheVariants.{Synchronous, Justified}
 use Rattle.plan_text.specs.Numbers.{number_of}
 
 abbrev pub words : List ℕ → List (List ℕ)
@@ -24,7 +22,3 @@ number_at line place = number_in (word_at line place)
 abbrev pub is_word : Option (List ℕ) → List ℕ → Bool
 is_word None text = false
 is_word (Some word) text = bytes_eq word text
-
--- the mode that `case NAME MODE ..` names
-abbrev pub mode_of : List ℕ → Mode
-mode_of line = cond (is_word (word_at line 2) (codes "justified")) Justified Synchronous

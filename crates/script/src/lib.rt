@@ -8,7 +8,7 @@ mod program;
 mod words;
 
 pub use banks::{SILENT, with_bank};
-pub use cases::each_case;
+pub use cases::mode_of;
 pub use plans::{busy_plan, plan_of};
 pub use program::run;
-pub use words::{mode_of, number, word};
+pub use words::{number, word};

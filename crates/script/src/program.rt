@@ -1,7 +1,7 @@
 // What a program over scripts does.
-ghost use Rattle.std.specs.Prelude.{ℕ, ◌⊎◌, Ok, string_bytes};
+ghost use Rattle.std.specs.Prelude.{ℕ, ◌⊎◌, Ok};
 ghost use Rattle.std.specs.Result.{OnOk};
-ghost use Rattle.script.specs.Cases.{Plays, begins_case, cases};
+ghost use Rattle.script.specs.Cases.{Plays, cases};
 
 use crate::cases::each_case;
 use std::env;
@@ -16,7 +16,7 @@ pub fn run<P: FnMut(&[String]) -> anyhow::Result<()>, M: FnOnce(u32) -> usize>(
 ) -> anyhow::Result<()>
     requires play { P.IsAlwaysCallable play }
     requires measure { M.IsAlwaysCallable measure }
-    ensures { OnOk result (((count : ℕ) × (bits : ℕ) × M.post measure count bits) ⊎ ((lines : _) × Plays P.FnMut play (cases (λ line. begins_case (string_bytes line)) lines) (Ok tt))) }
+    ensures { OnOk result (((count : ℕ) × (bits : ℕ) × M.post measure count bits) ⊎ ((lines : _) × Plays P.FnMut play (cases lines) (Ok tt))) }
 {
     if let Some(count) = env::args(rt)?.nth(1) {
         let bits = measure(count.as_str().parse().unwrap_or(0));

@@ -1,9 +1,8 @@
 // The words of a line, which single spaces separate.
 ghost use Rattle.std.specs.Prelude.{◌≡◌};
 ghost use Rattle.std.specs.Option.{option_copied};
-ghost use Rattle.script.specs.Words.{mode_of, number_at, word_at};
+ghost use Rattle.script.specs.Words.{number_at, word_at};
 
-use frame::Mode;
 use plan_text::text;
 
 /// The word at a place of a line, from 0.
@@ -20,14 +19,4 @@ pub fn number(line: &str, place: usize) -> u16
     word(line, place)
         .and_then(|word| text::number(word.as_bytes()))
         .unwrap_or(0)
-}
-
-/// The mode that the line `case NAME MODE ..` names.
-pub fn mode_of(line: &str) -> Mode
-    ensures { result ≡ mode_of line.now }
-{
-    match word(line, 2) {
-        Some("justified") => Mode::Justified,
-        _ => Mode::Synchronous,
-    }
 }
