@@ -15,6 +15,8 @@ use queue_bank::{MEMORY, QueueBank};
 use script::{SILENT, number, word};
 use station::Station;
 use std::alloc::{AllocError, Global};
+use std::env;
+use std::io::{self, BufRead, BufReader};
 
 // What a line of a case asks for.
 enum Command {
@@ -117,6 +119,15 @@ fn measure(count: u32) -> usize {
     send_many(&mut station, &mut [0; LONGEST], count)
 }
 
+// With a number as the argument measures so many frames, else plays the script on standard input.
+// Each program over scripts reads what it is given itself, since no contract can say what that is.
 fn main(rt: HostRuntime) -> anyhow::Result<()> {
-    script::run(&rt, |lines| play(&rt, lines), measure)
+    if let Some(count) = env::args(&rt)?.nth(1) {
+        let bits = measure(count.as_str().parse().unwrap_or(0));
+        println!(rt; "{bits} bits")?;
+        return Ok(());
+    }
+    let input = BufReader::new(rt.alloc(), rt.stdin())?;
+    let lines: io::Result<Vec<String>> = input.lines(rt.alloc()).collect(rt.alloc())?;
+    script::each_case(&lines?, |case| play(&rt, case))
 }

@@ -19,7 +19,9 @@ use queue_bank::{MEMORY, QueueBank};
 use script::{SILENT, word};
 use station::{Delivery, Faults, Line, Station};
 use std::alloc::{AllocError, Global};
+use std::env;
 use std::fmt::Write;
+use std::io::{self, BufRead, BufReader};
 
 // How many bits a station received, and how many envelopes it was given.
 #[derive(Clone, Copy, PartialEq, Eq)]
@@ -212,6 +214,15 @@ fn measure(count: u32) -> usize {
     )
 }
 
+// With a number as the argument measures so many frames, else plays the script on standard input.
+// Each program over scripts reads what it is given itself, since no contract can say what that is.
 fn main(rt: HostRuntime) -> anyhow::Result<()> {
-    script::run(&rt, |lines| play(&rt, lines), measure)
+    if let Some(count) = env::args(&rt)?.nth(1) {
+        let bits = measure(count.as_str().parse().unwrap_or(0));
+        println!(rt; "{bits} bits")?;
+        return Ok(());
+    }
+    let input = BufReader::new(rt.alloc(), rt.stdin())?;
+    let lines: io::Result<Vec<String>> = input.lines(rt.alloc()).collect(rt.alloc())?;
+    script::each_case(&lines?, |case| play(&rt, case))
 }

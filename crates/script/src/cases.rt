@@ -31,8 +31,8 @@ fn first_case(lines: &[String]) -> Option<(&[String], &[String])>
     Some(lines.split_at(before_next(rest) + 1))
 }
 
-// Calls a function with the lines of each case in turn, up to the first error.
-pub(crate) fn each_case<F: FnMut(&[String]) -> anyhow::Result<()>>(
+/// Calls a function with the lines of each case in turn, up to the first error.
+pub fn each_case<F: FnMut(&[String]) -> anyhow::Result<()>>(
     lines: &[String],
     mut play: F,
 ) -> anyhow::Result<()>

@@ -4,11 +4,9 @@
 mod banks;
 mod cases;
 mod plans;
-mod program;
 mod words;
 
 pub use banks::{SILENT, with_bank};
-pub use cases::mode_of;
+pub use cases::{each_case, mode_of};
 pub use plans::{busy_plan, plan_of};
-pub use program::run;
 pub use words::{number, word};
