@@ -1,6 +1,6 @@
 -- Rows of 750 bit/s, one for each channel, which meet no refusal.
-use Rattle.std.proofs.Common.{◌≡◌, ℕ, zero, suc, ◌+◌, ◌-◌, ◌%◌, ◌<◌, Bool, true, false, cond, ◌&&◌, eqb, ltb, [], ◌∷◌, length, get_or, set, replicate, Some, None, Option, Ok, is_some, sym, refl, ap, ◌∙◌, arith}
-use Rattle.std.proofs.lemmas.Bool.{and_right, cond-true, cond-false, eqb-true}
+use Rattle.std.proofs.Common.{◌≡◌, ℕ, zero, suc, ◌+◌, ◌-◌, ◌%◌, ◌<◌, ◌≤◌, Bool, true, false, cond, ◌&&◌, eqb, ltb, [], ◌∷◌, length, add-zero, get_or, set, replicate, Some, None, Option, Ok, is_some, sym, refl, ap, ◌∙◌, arith}
+use Rattle.std.proofs.lemmas.Bool.{and_right, cond-true, cond-false, eq-eqb, eqb-true, false≢true}
 use Rattle.std.proofs.lemmas.Bool.Decides.{nat_tests}
 use Rattle.std.proofs.lemmas.Grind.{get_or-set_at}
 use Rattle.std.proofs.lemmas.List.{get_or-set_other}
@@ -9,7 +9,7 @@ use Rattle.channel_plan.specs.declared.row.Assignment.{Assignment}
 use Rattle.channel_plan.specs.Adding.{admitted, assigned, conflict, unless, with_row}
 use Rattle.channel_plan.specs.Outcomes.{left}
 use Rattle.channel_plan.specs.Rows.{mixes, owns, shares, some_below}
-use Rattle.channel_plan.specs.Tables.{Table, is_channel, passes, row_at, some_row}
+use Rattle.channel_plan.specs.Tables.{Table, is_channel, owner_from, owner_of, passes, row_at, some_row}
 use Rattle.script.specs.Plans.{busy}
 
 abbrev at : ℕ → Assignment
@@ -83,3 +83,27 @@ none_at (suc m) (suc k) = none_at m k
 
 pub none_yet : (k : ℕ) → get_or {A = Option Assignment} (replicate 80 None) k None ≡ busy 0 k
 none_yet k = none_at 80 k ∙ sym (cond-false (ltb k 0) _ _ (grind (arith, nat_tests)))
+
+-- the first row that owns the slot tells its owner
+owner_at : (t : Table) (c j s : ℕ) → passes (λ a. owns a s) (get_or t j None) ≡ true → ((k : ℕ) → k < j → passes (λ a. owns a s) (get_or t k None) ≡ false) → owner_from c t s ≡ Some (c + j)
+owner_at [] c j s here none = absurd (false≢true here)
+owner_at (o ∷ t) c zero s here none = cond-true (passes (λ a. owns a s) o) _ _ here ∙ ap (λ n. Some n) (sym (add-zero c))
+owner_at (o ∷ t) c (suc j) s here none =
+    cond-false (passes (λ a. owns a s) o) _ _ (none 0 (omega arith))
+    ∙ owner_at t (c + 1) j s here (λ k less. none (suc k) (omega arith))
+    ∙ ap (λ n. Some n) (omega arith)
+
+-- where every channel has 750 bit/s every slot is owned
+pub owned : (t : Table) → ((k : ℕ) → k < 80 → get_or t k None ≡ Some (at k)) → (s : ℕ) → s < 240 → owner_of t s ≡ Some (s % 80 + 1)
+owned t h s less =
+    cond-true (ltb s 240) _ _ (grind (arith, nat_tests))
+    ∙ owner_at t 1 (s % 80) s
+    (ap (passes (λ a. owns a s)) (h (s % 80) small) ∙ eq-eqb (s % 80) (s % 80) refl)
+    (λ k before. ap (passes (λ a. owns a s)) (h k (omega arith)) ∙ grind (arith, nat_tests))
+    ∙ ap (λ n. Some n) (omega arith)
+  where
+    small : s % 80 < 80
+    small = omega arith
+
+pub filled : (n : ℕ) (t : Table) → 80 ≤ n → ((k : ℕ) → get_or t k None ≡ busy n k) → (k : ℕ) → k < 80 → get_or t k None ≡ Some (at k)
+filled n t enough h k less = h k ∙ cond-true (ltb k n) _ _ (grind (arith, nat_tests))

@@ -1,5 +1,6 @@
 // The plans of cases.
-ghost use Rattle.std.specs.Prelude.{◌≡◌, map, string_bytes};
+ghost use Rattle.std.specs.Prelude.{◌≡◌, ℕ, ◌+◌, ◌%◌, ◌<◌, map, string_bytes};
+ghost use Rattle.channel_plan.specs.Tables.{owner_of};
 ghost use Rattle.script.specs.Plans.{Busy, table_of};
 
 use crate::words::{number, word};
@@ -21,7 +22,8 @@ pub fn plan_of(lines: &[String]) -> Plan
 
 /// The plan of eighty channels at 750 bit/s, in which every slot is owned.
 pub fn busy_plan() -> Plan
-    ensures { Busy result.table }
+    ensures rows { Busy result.table }
+    ensures owned { (s : ℕ) → s < 240 → owner_of result.table s ≡ Some (s % 80 + 1) }
 {
     let mut draft = Draft::new();
     for slot in 0..80 {
