@@ -8,146 +8,98 @@
 #![tactic(auto)]
 
 use bank::{Bank, Envelope};
-use channel_plan::{Draft, Plan};
 use frame::Mode;
 use frame::content::LONGEST;
 use pattern_bank::PatternBank;
 use queue_bank::{MEMORY, QueueBank};
+use script::{SILENT, number, word};
 use station::Station;
-use std::alloc::Global;
+use std::alloc::{AllocError, Global};
 use std::env;
-use std::io::{BufRead, BufReader};
+use std::io::{self, BufRead, BufReader};
 
-const SILENT: Envelope = Envelope {
-    status: false,
-    octet: 0,
-};
-
-// The number that a word of a line is, or 0.
-fn number(word: Option<&str>) -> u16 {
-    match word {
-        Some(text) => text.parse::<u16>().unwrap_or(0),
-        None => 0,
-    }
+// What a line of a case asks for.
+enum Command {
+    Offer { channel: u16, envelope: Envelope },
+    Send { justification: i8 },
 }
 
-// The words of a line after the first.
-fn words(line: &str) -> [u16; 3] {
-    let mut words = line.split(' ');
-    let _ = words.next();
-    [
-        number(words.next()),
-        number(words.next()),
-        number(words.next()),
-    ]
-}
-
-// The plan of a case.
-fn plan_of(lines: &[String]) -> Plan {
-    let mut draft = Draft::new();
-    for line in lines {
-        if line.as_str().starts_with("row ") {
-            let [channel, rate, first] = words(line.as_str());
-            let _ = draft.add(channel, rate, first);
+impl Command {
+    // The command of a line, if it has one.
+    fn parse(line: &str) -> Option<Command> {
+        match word(line, 0)? {
+            "offer" => Some(Command::Offer {
+                channel: number(line, 1),
+                envelope: Envelope {
+                    status: number(line, 2) == 1,
+                    octet: (number(line, 3) % 256) as u8,
+                },
+            }),
+            "send" => Some(Command::Send {
+                justification: word(line, 1)?.parse().unwrap_or(0),
+            }),
+            _ => None,
         }
-    }
-    draft.seal()
-}
-
-fn mode_of(line: &str) -> Mode {
-    if line.ends_with(" justified") {
-        Mode::Justified
-    } else {
-        Mode::Synchronous
     }
 }
 
 // The bits of a frame as text.
-fn frame_text(heap: Global, bits: &[u8]) -> anyhow::Result<String> {
-    let mut text = String::from_str(heap, "frame ")?;
-    for bit in bits {
-        text.push(if *bit == 1 { '1' } else { '0' })?;
-    }
-    Ok(text)
+fn text_of(heap: Global, bits: &[u8]) -> Result<String, AllocError> {
+    bits.iter()
+        .map(|bit| if *bit == 1 { '1' } else { '0' })
+        .collect(heap)
 }
 
 // Sends a frame, and prints it.
-fn send<B: Bank>(rt: &HostRuntime, station: &mut Station<B>, line: &str) -> anyhow::Result<()> {
-    let justification = match line.strip_prefix("send ") {
-        Some(text) => text.parse::<i8>().unwrap_or(0),
-        None => 0,
-    };
+fn send<B: Bank>(
+    rt: &HostRuntime,
+    station: &mut Station<B>,
+    justification: i8,
+) -> anyhow::Result<()> {
     let mut buffer = [0; LONGEST];
     match station.send(justification, &mut buffer) {
         Ok(length) => {
-            if length <= LONGEST {
-                rt.println(frame_text(rt.alloc(), &buffer[0..length])?)?;
-            }
+            let bits = text_of(rt.alloc(), &buffer[..length])?;
+            println!(rt; "frame {bits}")?;
         }
-        Err(refusal) => {
-            let number = refusal.number();
-            println!(rt; "refused {number}")?;
-        }
+        Err(refusal) => println!(rt; "{refusal}")?,
     }
     Ok(())
 }
 
-// Plays one case, whose first line is `case NAME MODE`, over a bank; the other is for the time of an offer.
-fn play<B: Bank + Drop>(
+// Plays one case over a bank; the other is for the time of an offer.
+// The bank is of any kind, since no proof is made of a function that names a station over a bank that lends memory.
+fn play_over<B: Bank + Drop>(
     rt: &HostRuntime,
     lines: &[String],
-    mode: Mode,
     bank: B,
     mut other: B,
 ) -> anyhow::Result<()> {
-    let mut station = Station::placed(plan_of(lines), bank, 1, mode);
+    let plan = script::plan_of(lines);
+    let mut station = Station::placed(plan, bank, 1, script::mode_of(lines));
     for line in lines {
         rt.println(line.as_str())?;
-        if line.as_str().starts_with("offer ") {
-            let [channel, status, octet] = words(line.as_str());
-            station.swap_bank(&mut other);
-            let _ = other.offer(
-                channel,
-                Envelope {
-                    status: status == 1,
-                    octet: (octet % 256) as u8,
-                },
-            );
-            station.swap_bank(&mut other);
-        } else if line.as_str().starts_with("send ") {
-            send(rt, &mut station, line.as_str())?;
+        match Command::parse(line.as_str()) {
+            Some(Command::Offer { channel, envelope }) => {
+                script::with_bank(&mut station, &mut other, |bank| {
+                    bank.offer(channel, envelope)
+                });
+            }
+            Some(Command::Send { justification }) => send(rt, &mut station, justification)?,
+            None => {}
         }
     }
     Ok(())
 }
 
-// Plays the cases of a script one after another.
-fn run(rt: &HostRuntime) -> anyhow::Result<()> {
-    let mut lines: Vec<String> = Vec::new(rt.alloc());
-    for line in BufReader::new(rt.alloc(), rt.stdin())?.lines(rt.alloc()) {
-        let line = line?;
-        if line.as_str().starts_with("case ") {
-            finish(rt, &lines)?;
-            lines.clear();
-        }
-        lines.push(line)?;
-    }
-    finish(rt, &lines)
-}
-
-fn finish(rt: &HostRuntime, lines: &[String]) -> anyhow::Result<()> {
-    let Some(first) = lines.first() else {
-        return Ok(());
-    };
-    let mode = mode_of(first.as_str());
+// Plays one case.
+fn play(rt: &HostRuntime, lines: &[String]) -> anyhow::Result<()> {
     let mut memory = [SILENT; MEMORY];
-    let mut none = [];
-    play(
+    play_over(
         rt,
         lines,
-        mode,
         QueueBank::new(&mut memory),
-        QueueBank::new(&mut none),
+        QueueBank::new(&mut []),
     )
 }
 
@@ -155,39 +107,27 @@ fn finish(rt: &HostRuntime, lines: &[String]) -> anyhow::Result<()> {
 fn send_many<B: Bank>(station: &mut Station<B>, buffer: &mut [u8], count: u32) -> usize {
     let mut bits: usize = 0;
     for _ in 0..count {
-        if let Ok(length) = station.send(0, buffer) {
-            bits = bits.saturating_add(length);
-        }
+        bits = bits.saturating_add(station.send(0, buffer).unwrap_or(0));
     }
     bits
 }
 
-// The same of a station over a bank, every slot owned.
-fn measure<B: Bank + Drop>(bank: B, count: u32) -> usize {
-    let mut draft = Draft::new();
-    for slot in 0..80 {
-        let _ = draft.add(slot + 1, 750, slot);
-    }
-    let mut station = Station::placed(draft.seal(), bank, 1, Mode::Synchronous);
+// The same of a station over a pattern bank, every slot owned.
+fn measure(count: u32) -> usize {
+    let bank = PatternBank::new();
+    let mut station = Station::placed(script::busy_plan(), bank, 1, Mode::Synchronous);
     send_many(&mut station, &mut [0; LONGEST], count)
 }
 
-fn start(rt: &HostRuntime) -> anyhow::Result<()> {
-    let mut args = env::args(rt)?;
-    let _ = args.next();
-    match args.next() {
-        Some(count) => {
-            let bits = measure(
-                PatternBank::new(),
-                count.as_str().parse::<u32>().unwrap_or(0),
-            );
-            println!(rt; "{bits} bits")?;
-            Ok(())
-        }
-        None => run(rt),
-    }
-}
-
+// With a number as the argument measures so many frames, else plays the script on standard input.
+// Each program over scripts reads what it is given itself, since no contract can say what that is.
 fn main(rt: HostRuntime) -> anyhow::Result<()> {
-    start(&rt)
+    if let Some(count) = env::args(&rt)?.nth(1) {
+        let bits = measure(count.as_str().parse().unwrap_or(0));
+        println!(rt; "{bits} bits")?;
+        return Ok(());
+    }
+    let input = BufReader::new(rt.alloc(), rt.stdin())?;
+    let lines: io::Result<Vec<String>> = input.lines(rt.alloc()).collect(rt.alloc())?;
+    script::each_case(&lines?, |case| play(&rt, case))
 }

@@ -11,113 +11,57 @@
 // time.
 #![tactic(auto)]
 
-use bank::{Bank, Envelope};
-use channel_plan::{Draft, Plan};
+use bank::Bank;
 use frame::Mode;
 use frame::content::LONGEST;
 use pattern_bank::PatternBank;
 use queue_bank::{MEMORY, QueueBank};
-use station::faults::PLACES;
+use script::{SILENT, word};
 use station::{Delivery, Faults, Line, Station};
 use std::alloc::{AllocError, Global};
 use std::env;
 use std::fmt::Write;
-use std::io::{BufRead, BufReader};
+use std::io::{self, BufRead, BufReader};
 
-const SILENT: Envelope = Envelope {
-    status: false,
-    octet: 0,
-};
-
-// The number that a word of a line is, or 0.
-fn number(word: Option<&str>) -> u16 {
-    match word {
-        Some(text) => text.parse::<u16>().unwrap_or(0),
-        None => 0,
-    }
-}
-
-// The words of a line after the first.
-fn words(line: &str) -> [u16; 3] {
-    let mut words = line.split(' ');
-    let _ = words.next();
-    [
-        number(words.next()),
-        number(words.next()),
-        number(words.next()),
-    ]
-}
-
-// The plan of a case.
-fn plan_of(lines: &[String]) -> Plan {
-    let mut draft = Draft::new();
-    for line in lines {
-        if line.as_str().starts_with("row ") {
-            let [channel, rate, first] = words(line.as_str());
-            let _ = draft.add(channel, rate, first);
-        }
-    }
-    draft.seal()
-}
-
-fn mode_of(line: &str) -> Mode {
-    if line.contains(" justified ") {
-        Mode::Justified
-    } else {
-        Mode::Synchronous
-    }
+// How many bits a station received, and how many envelopes it was given.
+#[derive(Clone, Copy, PartialEq, Eq)]
+struct Sum {
+    bits: usize,
+    envelopes: usize,
 }
 
 // A station as the first line of a case, `case NAME MODE START`, says.
 fn station_of<B: Bank>(lines: &[String], bank: B) -> Station<B> {
-    let first = match lines.first() {
-        Some(line) => line.as_str(),
-        None => "",
-    };
-    if first.ends_with(" hunting") {
-        Station::hunting(plan_of(lines), bank, 1, mode_of(first))
-    } else {
-        Station::placed(plan_of(lines), bank, 1, mode_of(first))
+    let plan = script::plan_of(lines);
+    let mode = script::mode_of(lines);
+    match lines.first().and_then(|line| word(line.as_str(), 3)) {
+        Some("hunting") => Station::hunting(plan, bank, 1, mode),
+        _ => Station::placed(plan, bank, 1, mode),
     }
 }
 
 // The run that a text of digits stands for: a byte for each.
 fn run_of(heap: Global, digits: &str) -> Result<Vec<u8>, AllocError> {
-    let mut run = Vec::new(heap);
-    for digit in digits.bytes() {
-        run.push(digit.wrapping_sub(b'0'))?;
-    }
-    Ok(run)
+    digits
+        .bytes()
+        .map(|digit| digit.wrapping_sub(b'0'))
+        .collect(heap)
 }
 
 // Takes out the first envelope that waits on any channel.
 fn collect_any<B: Bank>(bank: &mut B) -> Option<Delivery> {
-    for channel in 1..=80 {
-        if let Some(envelope) = bank.collect(channel) {
-            return Some(Delivery { channel, envelope });
-        }
-    }
-    None
-}
-
-fn print_given(rt: &HostRuntime, delivery: Delivery) -> anyhow::Result<()> {
-    let channel = delivery.channel;
-    let status = delivery.envelope.status as u8;
-    let octet = delivery.envelope.octet;
-    println!(rt; "given {channel} {status} {octet}")?;
-    Ok(())
+    (1..=80).find_map(|channel| {
+        let envelope = bank.collect(channel)?;
+        Some(Delivery { channel, envelope })
+    })
 }
 
 // What a station tells at the end of a case.
-fn report(heap: Global, line: &Line, mut faults: Faults) -> anyhow::Result<String> {
+fn report<B: Bank + Drop>(heap: Global, station: Station<B>) -> anyhow::Result<String> {
+    let (_, line, mut faults) = station.into_parts();
     let mut text = String::new(heap);
-    for _ in 0..PLACES {
-        if let Some(fault) = faults.take() {
-            let kind = fault.kind.number();
-            let channel = fault.channel;
-            let bits = fault.bits;
-            writeln!(text, "fault {kind} {channel} {bits}")?;
-        }
+    while let Some(fault) = faults.take() {
+        writeln!(text, "fault {fault}")?;
     }
     let state = line.receiver.state.number();
     let wrong = line.receiver.state.wrong();
@@ -138,24 +82,26 @@ struct Pair<B> {
 
 impl<B: Bank + Drop> Pair<B> {
     // Prints the envelope that was given to the second station.
-    fn print_collected(&mut self, rt: &HostRuntime) -> anyhow::Result<()> {
-        self.bitwise.swap_bank(&mut self.other);
-        let collected = collect_any(&mut self.other);
-        self.bitwise.swap_bank(&mut self.other);
-        match collected {
-            Some(delivery) => print_given(rt, delivery),
-            None => Ok(()),
+    fn print_given(&mut self, rt: &HostRuntime) -> anyhow::Result<()> {
+        let given = script::with_bank(&mut self.bitwise, &mut self.other, collect_any);
+        if let Some(delivery) = given {
+            println!(rt; "given {delivery}")?;
         }
+        Ok(())
     }
 
     // The second station receives a run bit by bit; the sum of its answers.
-    fn receive_bits(&mut self, rt: &HostRuntime, run: &[u8]) -> anyhow::Result<(usize, usize)> {
-        let mut sum: (usize, usize) = (0, 0);
+    fn receive_bits(&mut self, rt: &HostRuntime, run: &[u8]) -> anyhow::Result<Sum> {
+        let mut sum = Sum {
+            bits: 0,
+            envelopes: 0,
+        };
         for bit in run {
             if let Ok((bits, envelopes)) = self.bitwise.receive(&[*bit]) {
-                sum = (sum.0.saturating_add(bits), sum.1.saturating_add(envelopes));
+                sum.bits = sum.bits.saturating_add(bits);
+                sum.envelopes = sum.envelopes.saturating_add(envelopes);
                 if envelopes == 1 {
-                    self.print_collected(rt)?;
+                    self.print_given(rt)?;
                 }
             }
         }
@@ -168,14 +114,11 @@ impl<B: Bank + Drop> Pair<B> {
             Ok((bits, envelopes)) => {
                 let sum = self.receive_bits(rt, run)?;
                 println!(rt; "answer {bits} {envelopes}")?;
-                if sum != (bits, envelopes) {
+                if sum != (Sum { bits, envelopes }) {
                     rt.println("pieces differ")?;
                 }
             }
-            Err(refusal) => {
-                let number = refusal.number();
-                println!(rt; "refused {number}")?;
-            }
+            Err(refusal) => println!(rt; "{refusal}")?,
         }
         Ok(())
     }
@@ -187,11 +130,9 @@ impl<B: Bank + Drop> Pair<B> {
             bitwise,
             other: _,
         } = self;
-        let (_, line, faults) = whole.into_parts();
-        let told = report(rt.alloc(), &line, faults)?;
+        let told = report(rt.alloc(), whole)?;
         rt.println(told.as_str())?;
-        let (_, line, faults) = bitwise.into_parts();
-        if told != report(rt.alloc(), &line, faults)? {
+        if told != report(rt.alloc(), bitwise)? {
             rt.println("pieces differ")?;
         }
         Ok(())
@@ -199,7 +140,8 @@ impl<B: Bank + Drop> Pair<B> {
 }
 
 // Plays one case over two banks; the third is for the time of a collection.
-fn play<B: Bank + Drop>(
+// The banks are of any kind, since no proof is made of a function that names a station over a bank that lends memory.
+fn play_over<B: Bank + Drop>(
     rt: &HostRuntime,
     lines: &[String],
     whole: B,
@@ -214,50 +156,23 @@ fn play<B: Bank + Drop>(
     for line in lines {
         rt.println(line.as_str())?;
         if let Some(digits) = line.as_str().strip_prefix("receive ") {
-            let run = run_of(rt.alloc(), digits)?;
-            pair.receive(rt, &run)?;
+            pair.receive(rt, &run_of(rt.alloc(), digits)?)?;
         }
     }
     pair.end(rt)
 }
 
-// Plays the cases of a script one after another.
-fn run(rt: &HostRuntime) -> anyhow::Result<()> {
-    let mut lines: Vec<String> = Vec::new(rt.alloc());
-    for line in BufReader::new(rt.alloc(), rt.stdin())?.lines(rt.alloc()) {
-        let line = line?;
-        if line.as_str().starts_with("case ") {
-            finish(rt, &lines)?;
-            lines.clear();
-        }
-        lines.push(line)?;
-    }
-    finish(rt, &lines)
-}
-
-fn finish(rt: &HostRuntime, lines: &[String]) -> anyhow::Result<()> {
-    if lines.is_empty() {
-        return Ok(());
-    }
+// Plays one case.
+fn play(rt: &HostRuntime, lines: &[String]) -> anyhow::Result<()> {
     let mut whole = [SILENT; MEMORY];
     let mut bitwise = [SILENT; MEMORY];
-    let mut none = [];
-    play(
+    play_over(
         rt,
         lines,
         QueueBank::new(&mut whole),
         QueueBank::new(&mut bitwise),
-        QueueBank::new(&mut none),
+        QueueBank::new(&mut []),
     )
-}
-
-// A placed station, every slot owned.
-fn busy_station<B: Bank>(bank: B) -> Station<B> {
-    let mut draft = Draft::new();
-    for slot in 0..80 {
-        let _ = draft.add(slot + 1, 750, slot);
-    }
-    Station::placed(draft.seal(), bank, 1, Mode::Synchronous)
 }
 
 // Receives frames of a station by another; how many bits they had.
@@ -270,8 +185,8 @@ fn receive_many<B: Bank>(
     let mut sum: usize = 0;
     for _ in 0..count {
         if let Ok(length) = sender.send(0, buffer)
-            && length <= LONGEST
-            && let Ok((bits, _)) = receiver.receive(&buffer[0..length])
+            && let Some(frame) = buffer.get(..length)
+            && let Ok((bits, _)) = receiver.receive(frame)
         {
             sum = sum.saturating_add(bits);
         }
@@ -279,30 +194,35 @@ fn receive_many<B: Bank>(
     sum
 }
 
-// The same over two banks.
-fn measure<B: Bank + Drop>(near: B, far: B, count: u32) -> usize {
-    let mut sender = busy_station(near);
-    let mut receiver = busy_station(far);
-    receive_many(&mut sender, &mut receiver, &mut [0; LONGEST], count)
+// A placed station over a pattern bank, every slot owned.
+fn busy_station() -> Station<PatternBank> {
+    Station::placed(
+        script::busy_plan(),
+        PatternBank::new(),
+        1,
+        Mode::Synchronous,
+    )
 }
 
-fn start(rt: &HostRuntime) -> anyhow::Result<()> {
-    let mut args = env::args(rt)?;
-    let _ = args.next();
-    match args.next() {
-        Some(count) => {
-            let bits = measure(
-                PatternBank::new(),
-                PatternBank::new(),
-                count.as_str().parse::<u32>().unwrap_or(0),
-            );
-            println!(rt; "{bits} bits")?;
-            Ok(())
-        }
-        None => run(rt),
-    }
+// The same between two stations over pattern banks.
+fn measure(count: u32) -> usize {
+    receive_many(
+        &mut busy_station(),
+        &mut busy_station(),
+        &mut [0; LONGEST],
+        count,
+    )
 }
 
+// With a number as the argument measures so many frames, else plays the script on standard input.
+// Each program over scripts reads what it is given itself, since no contract can say what that is.
 fn main(rt: HostRuntime) -> anyhow::Result<()> {
-    start(&rt)
+    if let Some(count) = env::args(&rt)?.nth(1) {
+        let bits = measure(count.as_str().parse().unwrap_or(0));
+        println!(rt; "{bits} bits")?;
+        return Ok(());
+    }
+    let input = BufReader::new(rt.alloc(), rt.stdin())?;
+    let lines: io::Result<Vec<String>> = input.lines(rt.alloc()).collect(rt.alloc())?;
+    script::each_case(&lines?, |case| play(&rt, case))
 }

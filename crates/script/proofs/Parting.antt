@@ -1,0 +1,44 @@
+-- The first case of a script, and the others.
+use Rattle.std.proofs.Common.{◌≡◌, Ok, Err, Result, ℕ, ◌+◌, ◌≤◌, suc, Bool, true, false, cond, not, ltb, List, [], ◌∷◌, length, String, take, drop, refl, ap, ◌∙◌, sym, arith}
+use Rattle.std.proofs.lemmas.Bool.Decides.{nat_tests}
+use Rattle.std.proofs.lemmas.List.Sums.{prefix_len-le-length}
+use Rattle.std.proofs.Math.Numerals.{add-one}
+use Rattle.std.specs.List.{onto_first, position, position_or_len}
+use Rattle.std.specs.Option.{unwrap_or}
+use Rattle.std.specs.Result.{IsErrAnd}
+use Rattle.script.specs.Cases.{begins, cases}
+
+module _ {Z : Type 0} where
+  -- the lines up to the next that begins a case, and the cases of those from there on
+  first_suc : (x : String Z) (xs : List (String Z))
+      → cases (x ∷ xs) ≡ take (suc (position_or_len begins xs)) (x ∷ xs) ∷ cases (drop (suc (position_or_len begins xs)) (x ∷ xs))
+  first_suc x [] = refl
+  first_suc x (y ∷ ys) =
+      elim (begins y) as (λ b.
+      cond b ((x ∷ []) ∷ cases (y ∷ ys)) (onto_first x (cases (y ∷ ys)))
+      ≡ (x ∷ take (cond (not b) (1 + position_or_len begins ys) 0) (y ∷ ys)) ∷ cases (drop (cond (not b) (1 + position_or_len begins ys) 0) (y ∷ ys))) [
+        | true ↦ refl
+        | false ↦ ap (onto_first x) (first_suc y ys) ∙ ap (λ n. (x ∷ take n (y ∷ ys)) ∷ cases (drop n (y ∷ ys))) one_more
+      ]
+    where
+      one_more : suc (position_or_len begins ys) ≡ 1 + position_or_len begins ys
+      one_more = omega arith
+
+  -- the place of the next case, or the end
+  next_place : (xs : List (String Z)) → unwrap_or (position begins xs) (length xs) ≡ position_or_len begins xs
+  next_place xs = at (ltb (position_or_len begins xs) (length xs)) refl
+    where
+      at : (b : Bool) → ltb (position_or_len begins xs) (length xs) ≡ b → unwrap_or (position begins xs) (length xs) ≡ position_or_len begins xs
+      at true e = rw e refl
+      at false e = rw e (grind (arith, nat_tests, prefix_len-le-length))
+
+  pub first_cut : (x : String Z) (xs : List (String Z)) (n : ℕ) → n ≡ unwrap_or (position begins xs) (length xs)
+      → cases (x ∷ xs) ≡ take (n + 1) (x ∷ xs) ∷ cases (drop (n + 1) (x ∷ xs))
+  first_cut x xs n e = rw (e ∙ next_place xs) (rw (add-one (position_or_len begins xs)) (first_suc x xs))
+
+  pub next_within : (xs : List (String Z)) (n : ℕ) → n ≡ unwrap_or (position begins xs) (length xs) → n ≤ length xs
+  next_within xs n e = rw (e ∙ next_place xs) (prefix_len-le-length _ xs)
+
+pub is_that_err : {X E : Type 0} (r : Result X E) (e : E) → IsErrAnd r (λ d. d ≡ e) → Err e ≡ r
+is_that_err (Ok x) e h = absurd h
+is_that_err (Err d) e h = ap (λ d. Err d) (sym h)

@@ -1,0 +1,33 @@
+// The plans of cases.
+ghost use Rattle.std.specs.Prelude.{◌≡◌, ℕ, ◌+◌, ◌%◌, ◌<◌, map, string_bytes};
+ghost use Rattle.channel_plan.specs.Tables.{owner_of};
+ghost use Rattle.script.specs.Plans.{Busy, table_of};
+
+use crate::words::{number, word};
+use channel_plan::{Draft, Plan};
+
+/// The plan that the rows of a case make. A row that is refused is passed over.
+pub fn plan_of(lines: &[String]) -> Plan
+    ensures { result.table ≡ table_of (map string_bytes lines.now) }
+{
+    let mut draft = Draft::new();
+    for line in lines {
+        let line = line.as_str();
+        if word(line, 0) == Some("row") {
+            let _ = draft.add(number(line, 1), number(line, 2), number(line, 3));
+        }
+    }
+    draft.seal()
+}
+
+/// The plan of eighty channels at 750 bit/s, in which every slot is owned.
+pub fn busy_plan() -> Plan
+    ensures rows { Busy result.table }
+    ensures owned { (s : ℕ) → s < 240 → owner_of result.table s ≡ Some (s % 80 + 1) }
+{
+    let mut draft = Draft::new();
+    for slot in 0..80 {
+        let _ = draft.add(slot + 1, 750, slot);
+    }
+    draft.seal()
+}
