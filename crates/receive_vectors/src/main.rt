@@ -63,7 +63,7 @@ fn report<B: Bank + Drop>(heap: Global, station: Station<B>) -> anyhow::Result<S
     while let Some(fault) = faults.take() {
         writeln!(text, "fault {fault}")?;
     }
-    let state = line.receiver.state.number();
+    let state = u8::from(&line.receiver.state);
     let wrong = line.receiver.state.wrong();
     let errored = line.receiver.errored;
     let lost = faults.lost;

@@ -9,13 +9,13 @@ use Rattle.channel_plan.specs.declared.row.Assignment.{Assignment}
 use Rattle.channel_plan.specs.Adding.{admitted, assigned, conflict, unless, with_row}
 use Rattle.channel_plan.specs.Outcomes.{left}
 use Rattle.channel_plan.specs.Rows.{mixes, owns, shares, some_below}
-use Rattle.channel_plan.specs.Tables.{Table, is_channel, owner_from, owner_of, passes, row_at, some_row}
+use Rattle.channel_plan.specs.Entries.{Entries, is_channel, owner_among, owner_from, passes, row_at, some_row}
 use Rattle.script.specs.Plans.{busy}
 
 abbrev at : ℕ → Assignment
 at k = record { rate = Bps750; first = k }
 
-no_row : (p : Assignment → Bool) (t : Table) → ((k : ℕ) → passes p (get_or t k None) ≡ false) → some_row p t ≡ false
+no_row : (p : Assignment → Bool) (t : Entries) → ((k : ℕ) → passes p (get_or t k None) ≡ false) → some_row p t ≡ false
 no_row p [] h = refl
 no_row p (o ∷ t) h = rw (h 0) (no_row p t (λ k. h (suc k)))
 
@@ -31,14 +31,14 @@ unfolding shares
 not_shared j k less = none_below (λ s. owns (at k) s && owns (at j) s) 240 (λ s. apart (s % 80) j k less)
 
 -- what passes at no entry of the first n passes at no row
-none_of : (p : Assignment → Bool) (n : ℕ) (t : Table) → ((k : ℕ) → get_or t k None ≡ busy n k) → ((k : ℕ) → k < n → p (at k) ≡ false) → some_row p t ≡ false
+none_of : (p : Assignment → Bool) (n : ℕ) (t : Entries) → ((k : ℕ) → get_or t k None ≡ busy n k) → ((k : ℕ) → k < n → p (at k) ≡ false) → some_row p t ≡ false
 none_of p n t h out = no_row p t (λ k. ap (passes p) (h k) ∙ here k (ltb k n) refl)
   where
     here : (k : ℕ) (b : Bool) → ltb k n ≡ b → passes p (cond b (Some (at k)) None) ≡ false
     here k true e = out k (grind (arith, nat_tests))
     here k false e = refl
 
-no_conflict : (n : ℕ) (t : Table) → ((k : ℕ) → get_or t k None ≡ busy n k) → conflict t (at n) ≡ None
+no_conflict : (n : ℕ) (t : Entries) → ((k : ℕ) → get_or t k None ≡ busy n k) → conflict t (at n) ≡ None
 no_conflict n t h =
     cond-false (some_row (mixes (at n)) t) _ _ (none_of (mixes (at n)) n t h (λ k less. and_right _ false refl))
     ∙ cond-false (some_row (shares (at n)) t) _ _ (none_of (shares (at n)) n t h (λ k less. not_shared k n less))
@@ -46,7 +46,7 @@ no_conflict n t h =
 back : (n : ℕ) → n + 1 - 1 ≡ n
 back n = omega arith
 
-module _ (n : ℕ) (t : Table) (less : n < 80) (h : (k : ℕ) → get_or t k None ≡ busy n k) where
+module _ (n : ℕ) (t : Entries) (less : n < 80) (h : (k : ℕ) → get_or t k None ≡ busy n k) where
   in_range : is_channel (n + 1) ≡ true
   in_range = grind (arith, nat_tests)
 
@@ -85,7 +85,7 @@ pub none_yet : (k : ℕ) → get_or {A = Option Assignment} (replicate 80 None) 
 none_yet k = none_at 80 k ∙ sym (cond-false (ltb k 0) _ _ (grind (arith, nat_tests)))
 
 -- the first row that owns the slot tells its owner
-owner_at : (t : Table) (c j s : ℕ) → passes (λ a. owns a s) (get_or t j None) ≡ true → ((k : ℕ) → k < j → passes (λ a. owns a s) (get_or t k None) ≡ false) → owner_from c t s ≡ Some (c + j)
+owner_at : (t : Entries) (c j s : ℕ) → passes (λ a. owns a s) (get_or t j None) ≡ true → ((k : ℕ) → k < j → passes (λ a. owns a s) (get_or t k None) ≡ false) → owner_from c t s ≡ Some (c + j)
 owner_at [] c j s here none = absurd (false≢true here)
 owner_at (o ∷ t) c zero s here none = cond-true (passes (λ a. owns a s) o) _ _ here ∙ ap (λ n. Some n) (sym (add-zero c))
 owner_at (o ∷ t) c (suc j) s here none =
@@ -94,7 +94,7 @@ owner_at (o ∷ t) c (suc j) s here none =
     ∙ ap (λ n. Some n) (omega arith)
 
 -- where every channel has 750 bit/s every slot is owned
-pub owned : (t : Table) → ((k : ℕ) → k < 80 → get_or t k None ≡ Some (at k)) → (s : ℕ) → s < 240 → owner_of t s ≡ Some (s % 80 + 1)
+pub owned : (t : Entries) → ((k : ℕ) → k < 80 → get_or t k None ≡ Some (at k)) → (s : ℕ) → s < 240 → owner_among t s ≡ Some (s % 80 + 1)
 owned t h s less =
     cond-true (ltb s 240) _ _ (grind (arith, nat_tests))
     ∙ owner_at t 1 (s % 80) s
@@ -105,5 +105,5 @@ owned t h s less =
     small : s % 80 < 80
     small = omega arith
 
-pub filled : (n : ℕ) (t : Table) → 80 ≤ n → ((k : ℕ) → get_or t k None ≡ busy n k) → (k : ℕ) → k < 80 → get_or t k None ≡ Some (at k)
+pub filled : (n : ℕ) (t : Entries) → 80 ≤ n → ((k : ℕ) → get_or t k None ≡ busy n k) → (k : ℕ) → k < 80 → get_or t k None ≡ Some (at k)
 filled n t enough h k less = h k ∙ cond-true (ltb k n) _ _ (grind (arith, nat_tests))

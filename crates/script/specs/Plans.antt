@@ -4,22 +4,22 @@ use Rattle.channel_plan.specs.declared.rate.Rate.TheVariants.{Bps750}
 use Rattle.channel_plan.specs.declared.row.Assignment.{Assignment}
 use Rattle.channel_plan.specs.Adding.{with_row}
 use Rattle.channel_plan.specs.Outcomes.{left}
-use Rattle.channel_plan.specs.Tables.{Table}
+use Rattle.channel_plan.specs.Entries.{Entries}
 use Rattle.script.specs.Words.{is_word, number_at, word_at}
 
 abbrev pub is_row : List ℕ → Bool
 is_row line = is_word (word_at line 0) (codes "row")
 
 -- the table with the row of a line; a refused row is passed over
-abbrev pub with_line : Table → List ℕ → Table
+abbrev pub with_line : Entries → List ℕ → Entries
 with_line t line = cond (is_row line) (left (with_row t (number_at line 1) (number_at line 2) (number_at line 3)) t) t
 
-abbrev pub with_lines : Table → List (List ℕ) → Table
+abbrev pub with_lines : Entries → List (List ℕ) → Entries
 with_lines t [] = t
 with_lines t (line ∷ lines) = with_lines (with_line t line) lines
 
 -- what the rows among the lines make of an empty draft
-abbrev pub table_of : List (List ℕ) → Table
+abbrev pub table_of : List (List ℕ) → Entries
 table_of lines = with_lines (replicate 80 None) lines
 
 -- what channel k + 1 is assigned where the first n channels have 750 bit/s, each from the slot below its number
@@ -27,5 +27,5 @@ abbrev pub busy : ℕ → ℕ → Option Assignment
 busy n k = cond (nat_lt k n) (Some (record { rate = Bps750; first = k })) None
 
 -- every channel has 750 bit/s, so that every slot is owned
-abbrev pub Busy : Table → Type 0
+abbrev pub Busy : Entries → Type 0
 Busy t = (k : ℕ) → k < 80 → slice_index_or t k None ≡ Some (record { rate = Bps750; first = k })

@@ -8,7 +8,7 @@ use channel_plan::{Draft, Plan};
 
 /// The plan that the rows of a case make. A row that is refused is passed over.
 pub fn plan_of(lines: &[String]) -> Plan
-    ensures { result.table ≡ table_of (map string_bytes lines.now) }
+    ensures { result.table.entries ≡ table_of (map string_bytes lines.now) }
 {
     let mut draft = Draft::new();
     for line in lines {
@@ -22,7 +22,7 @@ pub fn plan_of(lines: &[String]) -> Plan
 
 /// The plan of eighty channels at 750 bit/s, in which every slot is owned.
 pub fn busy_plan() -> Plan
-    ensures rows { Busy result.table }
+    ensures rows { Busy result.table.entries }
     ensures owned { (s : ℕ) → s < 240 → owner_of result.table s ≡ Some (s % 80 + 1) }
 {
     let mut draft = Draft::new();

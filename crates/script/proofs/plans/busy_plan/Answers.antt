@@ -7,9 +7,9 @@ loop-slot-init c = λ k. rw c.new-draft.ensures (none_yet k)
 pub loop-slot-preserved : goal.loop-slot-preserved
 loop-slot-preserved c = λ k.
     rw c.add.ensures.left
-    (added c.loop-slot.slot c.loop-slot.draft.table c.loop-slot-test.true c.loop-slot.invariant c.loop-slot.draft.long k)
+    (added c.loop-slot.slot c.loop-slot.draft.table.entries c.loop-slot-test.true c.loop-slot.invariant c.loop-slot.draft.table.long k)
 
 pub returns-clause-owned : goal.returns-clause-owned
 returns-clause-owned c = λ s less.
     rw c.seal.ensures
-    (owned c.loop-slot.draft.table (filled c.loop-slot.slot c.loop-slot.draft.table c.loop-slot-test.false c.loop-slot.invariant) s less)
+    (owned c.loop-slot.draft.table.entries (filled c.loop-slot.slot c.loop-slot.draft.table.entries c.loop-slot-test.false c.loop-slot.invariant) s less)
