@@ -48,6 +48,7 @@ module _ (mode : Mode) (c : Content) (v : Valid c) where
   next_known : IfSome (summed (leaves mode c v) (expected_next mode c.blocked c.justification)) (λ e. e ≡ next_check mode (frame mode c))
   next_known = grind (arith, frame_remainder mode c v)
 
+  -- what a clean frame shows and leaves
   pub record Received (x : Receiver) : Type 0 where
     pub bare_shown : List (Option Conclusion)
     pub shows : shown mode x (frame mode c) ≡ map (laden_word c) bare_shown
