@@ -2,6 +2,7 @@
 use Rattle.std.proofs.Common.{◌≡◌, ℕ, zero, suc, ◌+◌, ◌%◌, ◌<◌, ◌≤◌, Bool, true, false, cond, not, ◌&&◌, eqb, List, [], ◌∷◌, map, get_or, Some, None, IsSome, is_some, Option, sym, refl, subst, arith}
 use lib.Bits.{xor_zero_r}
 use Rattle.std.specs.List.{range_with_len}
+use Rattle.std.proofs.lemmas.Bool.Decides.{nat_tests}
 use Rattle.std.proofs.lemmas.Bool.{and_parts, eqb-true, false≢true, not-true}
 use Rattle.frame.specs.declared.content.Content.{Content}
 use Rattle.frame.specs.declared.mode.Justification.{Justification}
@@ -27,7 +28,7 @@ use Rattle.reception.specs.declared.state.Reception.TheVariants.{Aligned}
 use Rattle.reception.specs.Checks.{checking}
 use Rattle.reception.specs.Progresses.{from, heard_in}
 use Rattle.reception.specs.Registers.{shift}
-use Rattle.reception.specs.Steps.{alarm_fault, aligned_fault, aligned_shows, conclusion, shows_in, stepped, word_told}
+use Rattle.reception.specs.Steps.{aligned_fault, aligned_shows, conclusion, shows_in, stepped, word_told}
 use Rattle.reception.specs.Words.{has_majority}
 use Rattle.bearer.specs.InStep.{IsAlarm}
 use Rattle.bearer.specs.Sent.{Allows}
@@ -115,24 +116,13 @@ module _ (mode : Mode) where
       goes false t e = not-true t e
   fair_at on p k s d e = absurd (false≢true e)
 
-  alarm_clean : (a t : Bool) (k : ℕ) (cs : List (Option Conclusion)) → Clean zeros k cs → Clean zeros k (alarm_fault a t ∷ cs)
-  unfolding Clean
-  alarm_clean true false k cs h = (tt, h)
-  alarm_clean false true k cs h = (tt, h)
-  alarm_clean _ _ k cs h = h
-
   heard_clean : (g : Option Heard) (n : ℕ) (x : Receiver) (d k : ℕ) (cs : List (Option Conclusion)) → is_fair g ≡ true → Clean zeros k cs → Clean zeros k (aligned_fault g n x d ∷ cs)
   unfolding Clean
-  heard_clean (Some heard.Alarm) n x d k cs e h = alarm_clean x.alarm (eqb d 1) k cs h
-  heard_clean (Some heard.WrongPattern) n x d k cs e h = absurd (false≢true e)
-  heard_clean (Some heard.WrongCheck) n x d k cs e h = absurd (false≢true e)
-  heard_clean (Some (heard.Words told)) n x d k cs e h = (e, h)
-  heard_clean _ n x d k cs e h = h
+  heard_clean g n x d k cs e h = grind arith
 
   word_clean : (t : Bool) (s w k : ℕ) (cs : List (Option Conclusion)) → cond t (eqb s k && eqb w 0) true ≡ true → Clean zeros (cond t (k + 1) k) cs → Clean zeros k (word_told s (cond t (Some w) None) ∷ cs)
   unfolding Clean
-  word_clean true s w k cs e h = let parts = and_parts _ _ e in ((eqb-true s k parts.0, eqb-true w 0 parts.1), h)
-  word_clean false s w k cs e h = h
+  word_clean t s w k cs e h = grind (arith, nat_tests)
 
   role_clean : (r : Role) (q : Progress) (n : ℕ) (x : Receiver) (d k : ℕ) (cs : List (Option Conclusion)) → fair_bit mode k r q d ≡ true → Clean zeros (slot_after k r) cs → Clean zeros k (aligned_shows mode r q n x d ∷ cs)
   unfolding Clean
@@ -167,22 +157,22 @@ expected_next Synchronous blocked j = Some (remainder (frame Synchronous (bare_c
 expected_next Justified blocked j = None
 
 module _ (n k t : ℕ) where
-  is_fair_lem : (mode : Mode) (j : Justification) → Allows mode j → (known blocked a : Bool) → is_fair_from mode (frame_bit mode (bare_content blocked j)) (resting (carried known) n a k t) 0 0 (frame_length j) ≡ true
+  bare_is_fair : (mode : Mode) (j : Justification) → Allows mode j → (known blocked a : Bool) → is_fair_from mode (frame_bit mode (bare_content blocked j)) (resting (carried known) n a k t) 0 0 (frame_length j) ≡ true
   unfolding is_fair_from stepped frame_bit divide has_majority
-  is_fair_lem Synchronous Deleted never known blocked a = absurd never
-  is_fair_lem Synchronous Added never known blocked a = absurd never
-  is_fair_lem Justified Deleted ok true blocked a = refl
-  is_fair_lem Justified Deleted ok false blocked a = refl
-  is_fair_lem _ _ ok true blocked a = refl
-  is_fair_lem _ _ ok false blocked a = refl
+  bare_is_fair Synchronous Deleted never known blocked a = absurd never
+  bare_is_fair Synchronous Added never known blocked a = absurd never
+  bare_is_fair Justified Deleted ok true blocked a = refl
+  bare_is_fair Justified Deleted ok false blocked a = refl
+  bare_is_fair _ _ ok true blocked a = refl
+  bare_is_fair _ _ ok false blocked a = refl
 
   pub clean_stays : (mode : Mode) (j : Justification) → Allows mode j → (known blocked a : Bool) → StaysOver mode (frame_bit mode (bare_content blocked j)) (resting (carried known) n a k t) 0 (frame_length j)
-  clean_stays mode j ok known blocked a = fair_stays mode (frame_bit mode (bare_content blocked j)) (frame_length j) 0 0 (resting (carried known) n a k t) (is_fair_lem mode j ok known blocked a)
+  clean_stays mode j ok known blocked a = fair_stays mode (frame_bit mode (bare_content blocked j)) (frame_length j) 0 0 (resting (carried known) n a k t) (bare_is_fair mode j ok known blocked a)
 
   pub clean_shown : (mode : Mode) (j : Justification) → Allows mode j → (known blocked a : Bool) → Clean zeros 0 (shown mode (resting (carried known) n a k t) (frame mode (bare_content blocked j)))
   unfolding frame
   clean_shown mode j ok known blocked a =
-      fair_clean mode (frame_bit mode (bare_content blocked j)) (frame_length j) 0 0 (resting (carried known) n a k t) (is_fair_lem mode j ok known blocked a)
+      fair_clean mode (frame_bit mode (bare_content blocked j)) (frame_length j) 0 0 (resting (carried known) n a k t) (bare_is_fair mode j ok known blocked a)
 
   pub clean_rests : (mode : Mode) (j : Justification) → Allows mode j → (known blocked a : Bool) → (receiver_after mode (resting (carried known) n a k t) (frame mode (bare_content blocked j))).state ≡ Aligned (from 0 (checking true (expected_next mode blocked j))) 0
   unfolding receiver_after stepped frame frame_bit divide remainder_after has_majority

@@ -1,5 +1,5 @@
 -- A line in step with a sender stays so over a clean frame, and over any number of them.
-use Rattle.std.proofs.Common.{◌≡◌, ℕ, ◌-◌, ◌<◌, ◌≤◌, Bool, true, false, List, [], ◌∷◌, map, get_or, replicate, IfSome, Some, None, Option, sym, refl, ap, ◌∙◌, subst, ⊎_elim, arith}
+use Rattle.std.proofs.Common.{◌≡◌, ℕ, ◌-◌, ◌<◌, Bool, true, false, List, [], ◌∷◌, map, get_or, IfSome, Some, None, Option, sym, refl, ap, ◌∙◌, subst, ⊎_elim, arith}
 use native.Mathlib.Nat.{div-eq_of_lt}
 use lib.Bits.{xor_zero_r}
 use Rattle.std.specs.List.{AllByRecursion}
@@ -20,7 +20,7 @@ use Rattle.reception.specs.Checks.{checking}
 use Rattle.reception.specs.Progresses.{from}
 use Rattle.station.specs.declared.line.Line.{Line}
 use Rattle.station.specs.Frames.{next_check, sent_frame}
-use Rattle.station.specs.Lines.{entry, fresh_record}
+use Rattle.station.specs.Lines.{fresh_record}
 use Rattle.station.specs.Receiving.{events, faults_in, line_after, parts}
 use Rattle.station.specs.Sending.{Owners, content_of, word_at, words}
 use Rattle.station.proofs.Counted.{records_none}
@@ -48,6 +48,7 @@ module _ (mode : Mode) (c : Content) (v : Valid c) where
   next_known : IfSome (summed (leaves mode c v) (expected_next mode c.blocked c.justification)) (λ e. e ≡ next_check mode (frame mode c))
   next_known = grind (arith, frame_remainder mode c v)
 
+  -- what a clean frame shows and leaves
   pub record Received (x : Receiver) : Type 0 where
     pub bare_shown : List (Option Conclusion)
     pub shows : shown mode x (frame mode c) ≡ map (laden_word c) bare_shown
@@ -129,24 +130,21 @@ module _ (m : Meaning) (owner : Owners) (known : Channels owner) (s : Sender) (r
   })
 
 -- frame after frame
-goes_on_lem : (m : Meaning) (owner : Owners) → Channels owner → (js : List Justification) (s : Sender) (r : Line) → AllByRecursion (Allows s.line.mode) js → InStep s.line r → Receives m owner s r js
+over_frames : (m : Meaning) (owner : Owners) → Channels owner → (js : List Justification) (s : Sender) (r : Line) → AllByRecursion (Allows s.line.mode) js → InStep s.line r → Receives m owner s r js
 unfolding bits_sent envelopes_sent after_frames line_after events parts
-goes_on_lem m owner known [] s r allowed so = record { in_step = so; faults = tt; given = refl }
-goes_on_lem m owner known (j ∷ js) s r allowed so =
+over_frames m owner known [] s r allowed so = record { in_step = so; faults = tt; given = refl }
+over_frames m owner known (j ∷ js) s r allowed so =
     let bits = sent_frame m owner s.accounts s.line j in
     let next = after_frame m owner s j in
     let more = bits_sent m owner next js in
     let two = in_two owner r bits more in
     let here = all_slots m owner known s r j allowed.0 so in
-    let rest = goes_on_lem m owner known js next (line_after owner r bits) allowed.1 (keeps_step m owner known s r j allowed.0 so) in
+    let rest = over_frames m owner known js next (line_after owner r bits) allowed.1 (keeps_step m owner known s r j allowed.0 so) in
     record {
       in_step = rw (two.line) rest.in_step;
       faults = rw (two.recorded) (All-append (λ f. IsAlarm f.kind) (faults_in owner r bits) (faults_in owner (line_after owner r bits) more) here.quiet rest.faults);
       given = rw (two.delivered, here.given, rest.given);
     }
-
-nothing_received : (c : ℕ) → 0 < c → c ≤ 80 → (entry (replicate 80 fresh_record) (c - 1)).received ≡ None
-nothing_received c h u = rw (get_or-replicate 80 (c - 1) fresh_record _ (omega arith))
 
 pub stays : StaysInStep
 stays = record {
@@ -156,7 +154,7 @@ stays = record {
     state = record { expected = None; wrong = 0; is = refl; known = tt };
     sends = refl;
     receives = refl;
-    bits = λ c h u. rw (nothing_received c h u) tt;
+    bits = λ c h u. rw (get_or-replicate 80 (c - 1) fresh_record _ (omega arith)) tt;
   };
-  goes_on = λ m owner known s r js. goes_on_lem m owner known js s r;
+  goes_on = λ m owner known s r js. over_frames m owner known js s r;
 }

@@ -8,20 +8,19 @@ use Rattle.std.proofs.lemmas.Bool.{false≢true}
 use Rattle.std.proofs.lemmas.Grind.{elements}
 use Rattle.bank.specs.declared.Envelope.{Envelope}
 use Rattle.bank.specs.Meaning.{Accounts, Meaning}
-use Rattle.frame.specs.declared.mode.Mode.TheVariants.{Synchronous}
 use Rattle.reception.specs.declared.receiver.Conclusion.{Conclusion}
 use Rattle.reception.specs.declared.receiver.Conclusion.TheVariants as shows
 use Rattle.reception.specs.declared.receiver.FaultKind.{FaultKind}
 use Rattle.reception.specs.declared.receiver.FaultKind.TheVariants.{Regained}
-use Rattle.reception.specs.Steps.{conclusion, placed_state, stepped}
+use Rattle.reception.specs.Steps.{conclusion, stepped}
 use Rattle.station.specs.declared.event.Delivery.{Delivery}
 use Rattle.station.specs.declared.line.ChannelRecord.{ChannelRecord}
 use Rattle.station.specs.declared.line.Line.{Line}
 use Rattle.station.specs.Hearing.{alignment_in, concluded_event, concluded_line, envelope_in, event, heard_line, received_on, records_past, repeated, slot_event, slot_line, stepped_line}
-use Rattle.station.specs.Lines.{entry, fresh_line, next_bit, with_records}
+use Rattle.station.specs.Lines.{entry, next_bit}
 use Rattle.station.specs.Receiving.{events, faults_in, given, line_after, parts}
-use Rattle.station.specs.Sending.{Owners, line_past, or_filler, records_for, records_from, slot_word, taken_for, word, word_at}
-use Rattle.station.proofs.Counted.{records_more}
+use Rattle.station.specs.Sending.{Owners, or_filler, records_for, records_from, slot_word, taken_for, word, word_at}
+use Rattle.station.proofs.Counted.{records_one, records_same}
 use Rattle.bearer.specs.InStep.{Alternates, Channels, IsAlarm}
 use Rattle.bearer.specs.Sent.{carried, gathered, sent_at, sent_by}
 use Rattle.bearer.proofs.Clean.{Clean, clean_le}
@@ -29,14 +28,11 @@ use Rattle.bearer.proofs.Records.{only_records}
 use Rattle.bearer.proofs.Runs.{shown}
 
 -- what the ten bits of a slot hold
-envelope_in_lem : (e : Envelope) (a : Bool) → envelope_in (word e a) ≡ carried e
-envelope_in_lem e a = grind arith
+envelope_in_word : (e : Envelope) (a : Bool) → envelope_in (word e a) ≡ carried e
+envelope_in_word e a = grind arith
 
-alignment_in_lem : (e : Envelope) (a : Bool) → alignment_in (word e a) ≡ a
-alignment_in_lem e a = grind arith
-
-pub word_lt : (e : Envelope) (a : Bool) → word e a < 1024
-word_lt e a = grind arith
+alignment_in_word : (e : Envelope) (a : Bool) → alignment_in (word e a) ≡ a
+alignment_in_word e a = grind arith
 
 -- a bit that alternates is not repeated
 fresh_bit : (a : Bool) (o : Option Bool) → Alternates a o → repeated o a ≡ false
@@ -52,9 +48,6 @@ unfolding records_from
 length_records owner k c [] = refl
 length_records owner k c (r ∷ rs) = ap suc (length_records owner k (suc c) rs)
 
-abbrev any_line : Line
-any_line = fresh_line Synchronous 0 placed_state
-
 module _ (m : Meaning) (owner : Owners) (known : Channels owner) (f : Accounts) (rs : List ChannelRecord) (eighty : length rs ≡ 80) where
   abbrev sender : ℕ → List ChannelRecord
   sender k = records_for owner rs k
@@ -64,15 +57,11 @@ module _ (m : Meaning) (owner : Owners) (known : Channels owner) (f : Accounts) 
     pub long : length rr ≡ 80
     pub bits : (c : ℕ) → 0 < c → c ≤ 80 → Alternates (next_bit (sender k) c) (entry rr (c - 1)).received
 
-  -- the sender's records past slot k
-  past : (k : ℕ) (o : Option ℕ) → owner k ≡ o → (line_past o (with_records (sender k) any_line)).records ≡ sender (k + 1)
-  past k o e = ap (λ x. (line_past x (with_records (sender k) any_line)).records) (sym e) ∙ ap (λ (l : Line). l.records) (records_more owner rs k (known k) any_line)
-
   -- an envelope of channel ch is sent in slot k, and received
   synced_own : (k ch : ℕ) → owner k ≡ Some ch → 0 < ch → ch ≤ 80 → (rr : List ChannelRecord) → Synced k rr → Synced (k + 1) (received_on rr ch (next_bit (sender k) ch))
   synced_own k ch e low high rr s = record {
     long = length-set rr (ch - 1) _ ∙ s.long;
-    bits = λ c h l. rw (← past k (Some ch) e) (grind (arith, elements, s.bits c h l, s.long, eighty, length_records owner k 1 rs));
+    bits = λ c h l. rw (← records_one owner k ch e (ch - 1) 1 rs (omega arith)) (grind (arith, elements, s.bits c h l, s.long, eighty, length_records owner k 1 rs));
   }
 
   abbrev word_of : ℕ → ℕ
@@ -85,14 +74,14 @@ module _ (m : Meaning) (owner : Owners) (known : Channels owner) (f : Accounts) 
     pub given : (slot_event o l w).given ≡ sent_by m (taken_for m owner f k) o
 
   slot_at : (k : ℕ) (l : Line) → Synced k l.records → (o : Option ℕ) → owner k ≡ o → IfSome o (λ c. (0 < c) × (c ≤ 80)) → Slot k o (slot_word m (taken_for m owner f k) (sender k) o) l
-  slot_at k l s None e h = record { synced = record { long = s.long; bits = rw (← past k None e) s.bits }; quiet = refl; given = refl }
+  slot_at k l s None e h = record { synced = record { long = s.long; bits = rw (← records_same owner k 1 rs (λ d _. rw e)) s.bits }; quiet = refl; given = refl }
   slot_at k l s (Some ch) e h =
       let sent = or_filler (m.taken ch (taken_for m owner f k ch)).0 in
       let a = next_bit (sender k) ch in
       record {
-        synced = rw (alignment_in_lem sent a) (synced_own k ch e h.0 h.1 l.records s);
-        quiet = rw (alignment_in_lem sent a, fresh_bit a (entry l.records (ch - 1)).received (s.bits ch h.0 h.1));
-        given = rw (envelope_in_lem sent a);
+        synced = rw (alignment_in_word sent a) (synced_own k ch e h.0 h.1 l.records s);
+        quiet = rw (alignment_in_word sent a, fresh_bit a (entry l.records (ch - 1)).received (s.bits ch h.0 h.1));
+        given = rw (envelope_in_word sent a);
       }
 
   slot : (k : ℕ) (l : Line) → Synced k l.records → Slot k (owner k) (word_of k) l

@@ -26,7 +26,7 @@ use Rattle.reception.specs.declared.state.Reception.TheVariants.{Aligned}
 use Rattle.reception.specs.Checks.{checking, differs, expected_after, is_wrong}
 use Rattle.reception.specs.Progresses.{filled, heard_in, moved_on, padded, seen, with_word, word_in}
 use Rattle.reception.specs.Registers.{shift}
-use Rattle.reception.specs.Steps.{aligned_at, aligned_by, aligned_fault, aligned_shows, lost, with_state, word_told}
+use Rattle.reception.specs.Steps.{aligned_at, aligned_by, aligned_fault, aligned_shows, with_state, word_told}
 use Rattle.reception.specs.Words.{justification_by, no_words, with_bit}
 use Rattle.bearer.proofs.Laden.{Valid, check_front, laden, laden_bit, laden_padding, laden_word, own_remainder, progress_with, summed, sums_in, word_front}
 use Rattle.bearer.proofs.Places.{InPadding, InPayload, Place, bit_at, checks, payloads, slot_at}
@@ -128,16 +128,9 @@ module _ (mode : Mode) (c : Content) (v : Valid c) where
         (λ ne. rw (ne_eqb j 9 ne)) (cases_eq j 9)
 
 -- a verdict leaves the same beside each other
-module _ (f : Progress → Progress) where
-  with_cond : (t : Bool) (x y : Receiver) → cond t (progress_with f x) (progress_with f y) ≡ progress_with f (cond t x y)
-  with_cond true x y = refl
-  with_cond false x y = refl
-
-  aligned_square : (g : Option Heard) (q : Progress) (n : ℕ) (s : Reception) (x : Receiver) (b : ℕ) → aligned_by g (f q) n (with_state s x) b ≡ progress_with f (aligned_by g q n x b)
-  unfolding progress_with
-  aligned_square (Some heard.WrongPattern) q n s x b = with_cond (ltb n 2) (with_state (Aligned q (n + 1)) x) (lost x)
-  aligned_square None q n s x b = refl
-  aligned_square (Some g) q n s x b = refl
+aligned_square : (f : Progress → Progress) (g : Option Heard) (q : Progress) (n : ℕ) (s : Reception) (x : Receiver) (b : ℕ) → aligned_by g (f q) n (with_state s x) b ≡ progress_with f (aligned_by g q n x b)
+unfolding progress_with
+aligned_square f g q n s x b = grind arith
 
 fault_square : (c : Content) (g : Option Heard) (n : ℕ) (s : Reception) (x : Receiver) (b : ℕ) → aligned_fault g n (with_state s x) b ≡ laden_word c (aligned_fault g n x b)
 unfolding laden_word

@@ -36,13 +36,13 @@ module _ (owner : Owners) where
   records_none c (r ∷ rs) = ap (λ xs. r ∷ xs) (records_none (suc c) rs)
 
   -- where none of the channels owns slot k, their records stay
-  records_same : (k c : ℕ) (rs : List ChannelRecord) → ((d : ℕ) → c ≤ d → is_owner (owner k) d ≡ false) → records_from owner k c rs ≡ records_from owner (k + 1) c rs
+  pub records_same : (k c : ℕ) (rs : List ChannelRecord) → ((d : ℕ) → c ≤ d → is_owner (owner k) d ≡ false) → records_from owner k c rs ≡ records_from owner (k + 1) c rs
   unfolding records_from
   records_same k c [] none = refl
   records_same k c (r ∷ rs) none = rw (before_more owner c k, none c (omega arith), records_same k (suc c) rs (λ d h. none d (omega arith)))
 
   -- the owner of slot k alternates
-  records_one : (k d : ℕ) → owner k ≡ Some d → (n c : ℕ) (rs : List ChannelRecord) → d ≡ c + n → set (records_from owner k c rs) n (alternated_record (entry (records_from owner k c rs) n)) ≡ records_from owner (k + 1) c rs
+  pub records_one : (k d : ℕ) → owner k ≡ Some d → (n c : ℕ) (rs : List ChannelRecord) → d ≡ c + n → set (records_from owner k c rs) n (alternated_record (entry (records_from owner k c rs) n)) ≡ records_from owner (k + 1) c rs
   unfolding records_from alternated
   records_one k d e n c [] is = refl
   records_one k d e zero c (r ∷ rs) is =
