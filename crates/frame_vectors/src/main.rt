@@ -103,20 +103,16 @@ fn play(rt: &HostRuntime, lines: &[String]) -> anyhow::Result<()> {
     )
 }
 
-// Sends frames into the buffer; how many bits they had.
-fn send_many<B: Bank>(station: &mut Station<B>, buffer: &mut [u8], count: u32) -> usize {
-    let mut bits: usize = 0;
-    for _ in 0..count {
-        bits = bits.saturating_add(station.send(0, buffer).unwrap_or(0));
-    }
-    bits
-}
-
-// The same of a station over a pattern bank, every slot owned.
+// Sends frames of a station over a pattern bank, every slot owned; how many bits they had.
 fn measure(count: u32) -> usize {
-    let bank = PatternBank::new();
-    let mut station = Station::placed(script::busy_plan(), bank, 1, Mode::Synchronous);
-    send_many(&mut station, &mut [0; LONGEST], count)
+    let plan = script::busy_plan();
+    let mut station = Station::placed(plan, PatternBank::new(), 1, Mode::Synchronous);
+    let mut buffer = [0; LONGEST];
+    let mut sum: usize = 0;
+    for _ in 0..count {
+        sum = sum.saturating_add(station.send(0, &mut buffer).unwrap_or(0));
+    }
+    sum
 }
 
 // With a number as the argument measures so many frames, else plays the script on standard input.

@@ -17,7 +17,7 @@ use frame::content::LONGEST;
 use pattern_bank::PatternBank;
 use queue_bank::{MEMORY, QueueBank};
 use script::{SILENT, word};
-use station::{Delivery, Faults, Line, Station};
+use station::{Delivery, Station};
 use std::alloc::{AllocError, Global};
 use std::env;
 use std::fmt::Write;
@@ -175,43 +175,26 @@ fn play(rt: &HostRuntime, lines: &[String]) -> anyhow::Result<()> {
     )
 }
 
-// Receives frames of a station by another; how many bits they had.
-fn receive_many<B: Bank>(
-    sender: &mut Station<B>,
-    receiver: &mut Station<B>,
-    buffer: &mut [u8; LONGEST],
-    count: u32,
-) -> usize {
+// A placed station over a pattern bank, every slot owned.
+fn busy_station() -> Station<PatternBank> {
+    let plan = script::busy_plan();
+    Station::placed(plan, PatternBank::new(), 1, Mode::Synchronous)
+}
+
+// Receives frames of such a station by another; how many bits they had.
+fn measure(count: u32) -> usize {
+    let mut sender = busy_station();
+    let mut receiver = busy_station();
+    let mut buffer = [0; LONGEST];
     let mut sum: usize = 0;
     for _ in 0..count {
-        if let Ok(length) = sender.send(0, buffer)
-            && let Some(frame) = buffer.get(..length)
-            && let Ok((bits, _)) = receiver.receive(frame)
+        if let Ok(length) = sender.send(0, &mut buffer)
+            && let Ok((bits, _)) = receiver.receive(&buffer[..length])
         {
             sum = sum.saturating_add(bits);
         }
     }
     sum
-}
-
-// A placed station over a pattern bank, every slot owned.
-fn busy_station() -> Station<PatternBank> {
-    Station::placed(
-        script::busy_plan(),
-        PatternBank::new(),
-        1,
-        Mode::Synchronous,
-    )
-}
-
-// The same between two stations over pattern banks.
-fn measure(count: u32) -> usize {
-    receive_many(
-        &mut busy_station(),
-        &mut busy_station(),
-        &mut [0; LONGEST],
-        count,
-    )
 }
 
 // With a number as the argument measures so many frames, else plays the script on standard input.
