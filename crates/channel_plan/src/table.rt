@@ -52,6 +52,7 @@ impl Table {
         })
     }
 
+    // The two tests below are one line each; one method with the test as a parameter would want a clause over every test.
     // Whether a row of the assignment's group has another rate.
     fn mixes(&self, new: Assignment) -> bool
         ensures { result ≡ some_row (mixes new) self.now.entries }
