@@ -19,7 +19,8 @@ pub struct Row {
     pub assignment: Assignment,
 }
 
-// Whether there is a channel of that number.
+// Whether there is a channel of that number. The crate of banks has the same test: neither crate stands on the other, and a
+// crate of its own for one line is no plainer.
 pub(crate) fn is_channel(channel: u16) -> bool
     ensures { result ≡ is_channel channel }
 {

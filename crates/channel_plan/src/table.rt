@@ -35,11 +35,7 @@ impl Table {
     pub(crate) fn assigned(&self, channel: u16) -> Option<Assignment>
         ensures { result ≡ row_at self.now.entries channel }
     {
-        if row::is_channel(channel) {
-            self.entries[channel as usize - 1]
-        } else {
-            None
-        }
+        *self.entries.get((channel as usize).checked_sub(1)?)?
     }
 
     // The row of the channel.

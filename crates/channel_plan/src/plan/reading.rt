@@ -25,11 +25,7 @@ impl Plan {
         ensures exact { (c : ℕ) → OwnerIs self.now.table slot result c }
         ensures known { IfSome result (λ c. (0 < c) × (c ≤ 80)) }
     {
-        if slot < 240 {
-            self.owners[slot as usize]
-        } else {
-            None
-        }
+        *self.owners.get(slot as usize)?
     }
 
     /// The row of a channel.

@@ -5,14 +5,15 @@ use Rattle.channel_plan.specs.Tables.{OwnerIs}
 use Rattle.channel_plan.proofs.Owners.{owner_is, owner_known}
 use Rattle.channel_plan.proofs.plan.Plan.owner.Goals as goal
 
-pub returns-then-slot-lt240 : goal.returns-then-slot-lt240
-returns-then-slot-lt240 c =
+pub returns : goal.returns
+returns c =
     let p = c.args.self.now in
     let s = c.args.slot in
     let framed : s < 240 = search rules in
-    let is : get_or p.owners s None ≡ owner_from 1 p.table.entries s = p.owned s framed ∙ cond-true _ _ _ (lt-ltb s 240 framed) in
+    let read : c.in_ok-get.field-0.now ≡ get_or p.owners s None = search rules in
+    let is : c.in_ok-get.field-0.now ≡ owner_from 1 p.table.entries s = read ∙ p.owned s framed ∙ cond-true _ _ _ (lt-ltb s 240 framed) in
     record {
-      value = p.owned s framed;
+      value = read ∙ p.owned s framed;
       exact = λ k. subst (λ o. OwnerIs p.table s o k) (sym is) (owner_is p.table s framed k);
       known = subst (λ o. IfSome o (λ k. (0 < k) × (k ≤ 80))) (sym is) (owner_known p.table.entries s p.table.long);
     }
