@@ -39,6 +39,7 @@ pub fn each_case<F: FnMut(&[String]) -> anyhow::Result<()>>(
     requires { F.IsAlwaysCallable play }
     ensures { Plays F.FnMut play (cases lines.now) result }
 {
+    // The only walk over the cases: an iterator of its own would say the same in more lines.
     let mut rest = lines;
     while let Some((case, after)) = first_case(rest) {
         play(case)?;

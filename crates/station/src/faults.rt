@@ -20,7 +20,7 @@ const NO_FAULT: Fault = Fault {
 
 /// A queue of 64 records, and how many later ones were lost.
 // The records lie in the station's own memory, as a ring.
-#[derive(Drop)]
+#[derive(Clone, Drop)]
 pub struct Faults {
     ring: Ring,
     memory: [Fault; PLACES],

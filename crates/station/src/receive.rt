@@ -15,7 +15,8 @@ use channel_plan::Plan;
 /// How many bits a run has at the most.
 pub const LONGEST_RUN: usize = 65536;
 
-// Why a run is not received, if it is not. Every byte of it is looked at before the first is used.
+// Why a run is not received, if it is not.
+// A `for` over the bytes: each is looked at before the first is used, which is the rule, so this is a loop in plain sight.
 fn judge(run: &[u8]) -> Result<(), ReceiveRefusal>
     ensures { result ≡ accepted (refused_run run.now) }
 {
