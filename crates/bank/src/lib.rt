@@ -79,5 +79,5 @@ pub fn is_channel(number: u16) -> bool
 pub fn index_of(number: u16) -> Option<usize>
     ensures { result ≡ index_of number }
 {
-    (number as usize).checked_sub(1).filter(|i| *i < CHANNELS)
+    usize::from(number).checked_sub(1).filter(|i| *i < CHANNELS)
 }

@@ -5,6 +5,7 @@ use Rattle.channel_plan.specs.Entries.{owner_among, row_at}
 use Rattle.channel_plan.specs.Rates.{period}
 use Rattle.channel_plan.specs.declared.table.Table.{Table as Rows}
 
+-- the struct that holds the rows, with what its type says of them
 abbrev pub Table : Type 0
 Table = Rows
 

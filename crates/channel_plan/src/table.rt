@@ -35,7 +35,7 @@ impl Table {
     pub(crate) fn assigned(&self, channel: u16) -> Option<Assignment>
         ensures { result ≡ row_at self.now.entries channel }
     {
-        *self.entries.get((channel as usize).checked_sub(1)?)?
+        *self.entries.get(usize::from(channel).checked_sub(1)?)?
     }
 
     // The row of the channel.
@@ -48,8 +48,8 @@ impl Table {
         })
     }
 
-    // The two tests below are one line each; one method with the test as a parameter would want a clause over every test.
     // Whether a row of the assignment's group has another rate.
+    // This and the next are one line each: one method with the test as a parameter would want a clause over every test.
     fn mixes(&self, new: Assignment) -> bool
         ensures { result ≡ some_row (mixes new) self.now.entries }
     {

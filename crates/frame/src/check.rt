@@ -10,7 +10,7 @@ const DIVISOR: u32 = 0x11021;
 pub fn divide_on(rest: u16, bit: u8) -> u16
     ensures { result ≡ divide rest bit }
 {
-    let dividend = rest as u32 * 2 + (bit % 2) as u32;
+    let dividend = u32::from(rest) * 2 + u32::from(bit % 2);
     if dividend < 65536 {
         dividend as u16
     } else {

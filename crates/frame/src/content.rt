@@ -36,14 +36,14 @@ fn sent_bit<const BITS: u16>(word: u16, index: u16) -> u8
 pub fn pattern_bit(index: u8) -> u8
     ensures { result ≡ sent_bit 14 0b11111001101010 index }
 {
-    sent_bit::<14>(PATTERN, index as u16)
+    sent_bit::<14>(PATTERN, u16::from(index))
 }
 
 /// Bit `index`, 0 or 1, of the number of a subframe 1 to 4 less one.
 pub fn number_bit(subframe: u8, index: u8) -> u8
     ensures { result ≡ sent_bit 2 (subframe - 1) index }
 {
-    sent_bit::<2>((subframe as u16).saturating_sub(1), index as u16)
+    sent_bit::<2>(u16::from(subframe).saturating_sub(1), u16::from(index))
 }
 
 impl Content {
@@ -57,8 +57,8 @@ impl Content {
             Padding::Pattern(index) => pattern_bit(index),
             Padding::Number(index) => number_bit(subframe, index),
             Padding::Service(index) => sent_bit::<3>(
-                self.justification.service_word() as u16,
-                index as u16,
+                u16::from(self.justification.service_word()),
+                u16::from(index),
             ),
             Padding::Zero => 0,
         }
@@ -74,7 +74,10 @@ impl Content {
                 subframe,
                 padding_at(mode, subframe, index),
             ),
-            Role::Payload { slot, bit } => sent_bit::<10>(self.words[slot as usize], bit as u16),
+            Role::Payload { slot, bit } => sent_bit::<10>(
+                self.words[usize::from(slot)],
+                u16::from(bit),
+            ),
             Role::Added => 0,
         }
     }

@@ -33,7 +33,8 @@ impl Justification {
         }
     }
 
-    /// The service word that tells it, three bits. A justification has two more numbers, its length and its own, so this is no `From`.
+    /// The service word that tells it, three bits.
+    // A justification has two more numbers, its length and its own, so this is no `From`.
     pub fn service_word(self) -> u8
         ensures { result ≡ service_word self }
     {

@@ -22,14 +22,17 @@ pub enum Padding {
     Zero,
 }
 
-/// What bit P1 to P40 of a subframe 1 to 4 holds. The two numbers come from a `Role::Padding`, whose names they keep.
+/// What bit P1 to P40 of a subframe 1 to 4 holds.
+// The two numbers come from a `Role::Padding`, whose names they keep.
 pub fn padding_at(mode: Mode, subframe: u8, index: u8) -> Padding
     ensures { result ≡ padding mode subframe index }
 {
     match (index, mode) {
         (0..=1, _) => Padding::Alarm,
         (2..=4 | 9..=20, _) => Padding::One,
-        (5..=8, _) => Padding::Check(4 * (subframe as u16).saturating_sub(1) + (index as u16 - 5)),
+        (5..=8, _) => Padding::Check(
+            4 * u16::from(subframe).saturating_sub(1) + (u16::from(index) - 5),
+        ),
         (21..=34, _) => Padding::Pattern(index - 21),
         (35..=36, _) => Padding::Number(index - 35),
         (_, Mode::Synchronous) => Padding::One,

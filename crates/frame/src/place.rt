@@ -42,12 +42,12 @@ pub fn place_of(role: Role) -> Option<u16>
         Role::Padding {
             subframe: subframe @ 1..=4,
             index: index @ 1..=40,
-        } => Some(16 * (40 * (subframe as u16 - 1) + (index as u16 - 1)) + 15),
+        } => Some(16 * (40 * (u16::from(subframe) - 1) + (u16::from(index) - 1)) + 15),
         Role::Payload {
             slot: slot @ 0..=239,
             bit: bit @ 0..=9,
         } => {
-            let payload = 10 * slot as u16 + bit as u16;
+            let payload = 10 * u16::from(slot) + u16::from(bit);
             Some(payload + payload / 15)
         }
         Role::Added => Some(2560),

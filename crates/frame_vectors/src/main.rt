@@ -12,7 +12,7 @@ use frame::Mode;
 use frame::content::LONGEST;
 use pattern_bank::PatternBank;
 use queue_bank::{MEMORY, QueueBank};
-use script::{SILENT, number, word};
+use script::{number, word};
 use station::Station;
 use std::alloc::{AllocError, Global};
 use std::env;
@@ -94,7 +94,7 @@ fn play_over<B: Bank + Drop>(
 
 // Plays one case.
 fn play(rt: &HostRuntime, lines: &[String]) -> anyhow::Result<()> {
-    let mut memory = [SILENT; MEMORY];
+    let mut memory = [Envelope::default(); MEMORY];
     play_over(
         rt,
         lines,

@@ -27,6 +27,7 @@ pub fn three_fields(line: &[u8]) -> Option<Columns<&[u8]>>
 {
     let (left, rest) = split_once(line, b',')?;
     let (middle, right) = split_once(rest, b',')?;
+    // A third comma is one too many: a match, since no method turns what is there into nothing.
     match split_once(right, b',') {
         Some(_) => None,
         None => Some(Columns {

@@ -77,7 +77,8 @@ impl<'a> QueueBank<'a> {
     }
 
     // Calls `call` on a channel over the memory, and answers what it answered; nothing outside 1 to 80.
-    // The channel is a copy while the memory is lent, and has to lie where it lay. A pattern bank has neither, so the two are not one.
+    // The channel is a copy while the memory is lent, and has to lie where it lay. A pattern bank has neither, so the two
+    // are not one.
     fn on_channel<R, F: FnOnce(&mut Channel, &mut [Envelope]) -> R>(
         &mut self,
         channel: u16,

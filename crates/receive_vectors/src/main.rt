@@ -11,12 +11,12 @@
 // time.
 #![tactic(auto)]
 
-use bank::Bank;
+use bank::{Bank, Envelope};
 use frame::Mode;
 use frame::content::LONGEST;
 use pattern_bank::PatternBank;
 use queue_bank::{MEMORY, QueueBank};
-use script::{SILENT, word};
+use script::word;
 use station::{Delivery, Station};
 use std::alloc::{AllocError, Global};
 use std::env;
@@ -164,8 +164,8 @@ fn play_over<B: Bank + Drop>(
 
 // Plays one case.
 fn play(rt: &HostRuntime, lines: &[String]) -> anyhow::Result<()> {
-    let mut whole = [SILENT; MEMORY];
-    let mut bitwise = [SILENT; MEMORY];
+    let mut whole = [Envelope::default(); MEMORY];
+    let mut bitwise = [Envelope::default(); MEMORY];
     play_over(
         rt,
         lines,

@@ -21,7 +21,7 @@ impl Hunt {
         ensures answer { result ≡ found self.old bit }
         ensures left { self.new ≡ hunted_on self.old bit }
     {
-        let phase = (self.count % 16) as usize;
+        let phase = usize::from(self.count % 16);
         let register = shift::<14>(self.registers[phase], bit);
         self.registers[phase] = register;
         self.count = self.count.wrapping_add(1);

@@ -107,7 +107,7 @@ impl Progress {
         self.check.remainder = divide_on(self.check.remainder, bit);
         // The words are asked only where a frame can end, for the sake of speed.
         if self.place < 2558
-            || (self.place as usize) < self.justification(mode).frame_length() - 1
+            || usize::from(self.place) < self.justification(mode).frame_length() - 1
         {
             self.place += 1;
         } else {

@@ -7,5 +7,5 @@ pub(crate) fn shift<const BITS: u32>(register: u16, bit: u8) -> u16
     requires { BITS ≤ 16 }
     ensures { result ≡ shift BITS register bit }
 {
-    ((register as u32 * 2 + bit as u32) % (1 << BITS)) as u16
+    ((u32::from(register) * 2 + u32::from(bit)) % (1 << BITS)) as u16
 }

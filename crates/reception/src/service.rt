@@ -21,9 +21,9 @@ impl Service {
     pub(crate) fn hear(&mut self, subframe: u8, index: u8, bit: u8)
         ensures { self.new ≡ with_bit self.old subframe index bit }
     {
-        let word = shift::<3>(self.partial as u16, bit) as u8;
+        let word = shift::<3>(u16::from(self.partial), bit) as u8;
         if index == 2 {
-            self.words[(subframe.saturating_sub(1) % 4) as usize] = Some(word);
+            self.words[usize::from(subframe.saturating_sub(1) % 4)] = Some(word);
             self.partial = 0;
         } else {
             self.partial = word;

@@ -34,8 +34,8 @@ pub struct Checking {
     pub received: u16,
     /// the remainder of the frame's bits so far
     pub remainder: u16,
-    /// whether the frame was received from its first bit; the remainder is no `Option` in its place, since each bit
-    /// divides it, of a whole frame or not
+    /// whether the frame was received from its first bit
+    // The remainder is no `Option` in its place, since each bit divides it, of a whole frame or not.
     pub whole: bool,
     /// what its check bits should be, where that is known
     pub expected: Option<u16>,

@@ -2,14 +2,8 @@
 ghost use Rattle.std.specs.Prelude.{◌≡◌};
 ghost use Rattle.std.specs.Fn.{FnOnceReturnsAtMut};
 
-use bank::{Bank, Envelope};
+use bank::Bank;
 use station::Station;
-
-/// What the memory of a bank holds before anything is put there.
-pub const SILENT: Envelope = Envelope {
-    status: false,
-    octet: 0,
-};
 
 /// Calls a function with the bank of a station, in whose place the other bank stands meanwhile.
 pub fn with_bank<B: Bank, R, F: FnOnce(&mut B) -> R>(

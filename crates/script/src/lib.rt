@@ -6,7 +6,7 @@ mod cases;
 mod plans;
 mod words;
 
-pub use banks::{SILENT, with_bank};
+pub use banks::with_bank;
 pub use cases::{each_case, mode_of};
 pub use plans::{busy_plan, plan_of};
 pub use words::{number, word};

@@ -14,11 +14,11 @@ use Rattle.frame.specs.declared.place.Role.TheVariants as place
 use Rattle.frame.specs.Checks.{flipped, remainder}
 use Rattle.frame.specs.Frames.{frame}
 use Rattle.frame.specs.Places.{place_of, role}
-use Rattle.reception.specs.declared.progress.Heard.TheVariants.{RightPattern, WrongPattern}
 use Rattle.reception.specs.declared.state.Progress.{Progress}
 use Rattle.reception.specs.declared.state.Receiver.{Receiver}
 use Rattle.reception.specs.declared.state.Reception.{Reception}
 use Rattle.reception.specs.declared.state.Reception.TheVariants.{Aligned}
+use Rattle.reception.specs.Progresses.{pattern}
 use Rattle.reception.specs.Steps.{aligned_by, fresh_receiver, hunting_state, placed_state, state_number, stepped, with_state, wrong_in}
 use Rattle.reception.specs.Words.{is_disputed, justification_by}
 
@@ -63,7 +63,7 @@ standing x = (state_number x.state, wrong_in x.state)
 
 -- an aligned receiver after one pattern more, right or wrong, which brings it to q
 abbrev pub pattern_heard : Progress → Receiver → Bool → Receiver
-pattern_heard q x right = aligned_by (Some (cond right RightPattern WrongPattern)) q (wrong_in x.state) x 1
+pattern_heard q x right = aligned_by (Some (pattern right)) q (wrong_in x.state) x 1
 
 -- the state after these patterns, where none before them was wrong
 abbrev pub after_patterns : Progress → Receiver → List Bool → Reception

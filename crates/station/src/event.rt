@@ -21,7 +21,7 @@ impl fmt::Display for Delivery {
     ghost output = { λ d. Some (delivery_text d) };
 
     fn fmt<W: fmt::Write>(&self, f: &mut fmt::Formatter<W>) -> fmt::Result {
-        let status = self.envelope.status as u8;
+        let status = u8::from(self.envelope.status);
         write!(f, "{} {status} {}", self.channel, self.envelope.octet)
     }
 }

@@ -40,7 +40,7 @@ impl Line {
             return Event::nothing();
         };
         let Slot { envelope, align } = Slot::from(word);
-        let repeated = self.records[channel as usize - 1].receive(align);
+        let repeated = self.records[usize::from(channel) - 1].receive(align);
         Event {
             given: Some(Delivery { channel, envelope }),
             fault: repeated.then_some(self.fault(FaultKind::EnvelopeAlignment, channel)),
@@ -54,7 +54,7 @@ impl Line {
         ensures left { self.new ≡ concluded_line (owner_of plan.now.table) self.old (Some conclusion) }
     {
         match conclusion {
-            Conclusion::Word { slot, bits } => self.hear_slot(plan, slot as u16, bits),
+            Conclusion::Word { slot, bits } => self.hear_slot(plan, u16::from(slot), bits),
             Conclusion::Fault(kind) => {
                 if kind == FaultKind::Regained {
                     forget(&mut self.records);

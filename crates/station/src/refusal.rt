@@ -52,6 +52,7 @@ impl From<ReceiveRefusal> for u8 {
     }
 }
 
+// Written out for each: one function for both would want a clause on the formatter, and be longer than its line.
 impl fmt::Display for ReceiveRefusal {
     ghost output = { λ r. Some (refused (receive_number r)) };
 

@@ -16,7 +16,9 @@ impl From<Slot> for u16 {
     ghost from_gives = { λ s r. r ≡ word s.envelope s.align };
 
     fn from(slot: Slot) -> u16 {
-        512 * slot.envelope.status as u16 + 256 * slot.align as u16 + slot.envelope.octet as u16
+        512 * u16::from(slot.envelope.status)
+            + 256 * u16::from(slot.align)
+            + u16::from(slot.envelope.octet)
     }
 }
 

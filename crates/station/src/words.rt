@@ -32,7 +32,7 @@ impl Line {
             return UNOWNED;
         };
         let envelope = bank.take(channel).unwrap_or(FILLER);
-        let align = self.records[channel as usize - 1].alternate();
+        let align = self.records[usize::from(channel) - 1].alternate();
         u16::from(Slot { envelope, align })
     }
 

@@ -25,7 +25,7 @@ impl Plan {
         ensures exact { (c : ℕ) → OwnerIs self.now.table slot result c }
         ensures known { IfSome result (λ c. (0 < c) × (c ≤ 80)) }
     {
-        *self.owners.get(slot as usize)?
+        *self.owners.get(usize::from(slot))?
     }
 
     /// The row of a channel.
