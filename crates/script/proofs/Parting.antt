@@ -1,5 +1,5 @@
 -- The first case of a script, and the others.
-use Rattle.std.proofs.Common.{◌≡◌, Ok, Err, Result, ℕ, ◌+◌, ◌≤◌, suc, Bool, true, false, cond, not, ltb, List, [], ◌∷◌, length, String, take, drop, refl, ap, ◌∙◌, sym, arith}
+use Rattle.std.proofs.Common.{◌≡◌, Ok, Err, Result, ℕ, ◌+◌, suc, Bool, true, false, cond, not, ltb, List, [], ◌∷◌, length, String, take, drop, refl, ap, ◌∙◌, sym, arith}
 use Rattle.std.proofs.lemmas.Bool.Decides.{nat_tests}
 use Rattle.std.proofs.lemmas.List.Sums.{prefix_len-le-length}
 use Rattle.std.proofs.Math.Numerals.{add-one}
@@ -35,9 +35,6 @@ module _ {Z : Type 0} where
   pub first_cut : (x : String Z) (xs : List (String Z)) (n : ℕ) → n ≡ unwrap_or (position begins xs) (length xs)
       → cases (x ∷ xs) ≡ take (n + 1) (x ∷ xs) ∷ cases (drop (n + 1) (x ∷ xs))
   first_cut x xs n e = rw (e ∙ next_place xs) (rw (add-one (position_or_len begins xs)) (first_suc x xs))
-
-  pub next_within : (xs : List (String Z)) (n : ℕ) → n ≡ unwrap_or (position begins xs) (length xs) → n ≤ length xs
-  next_within xs n e = rw (e ∙ next_place xs) (prefix_len-le-length _ xs)
 
 pub is_that_err : {X E : Type 0} (r : Result X E) (e : E) → IsErrAnd r (λ d. d ≡ e) → Err e ≡ r
 is_that_err (Ok x) e h = absurd h
