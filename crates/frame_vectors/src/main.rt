@@ -12,11 +12,11 @@ use frame::Mode;
 use frame::content::LONGEST;
 use pattern_bank::PatternBank;
 use queue_bank::{MEMORY, QueueBank};
-use script::{number, word};
+use script::number;
 use station::Station;
 use std::alloc::{AllocError, Global};
 use std::env;
-use std::io::{self, BufRead, BufReader};
+use std::io::{BufRead, BufReader};
 
 // What a line of a case asks for.
 enum Command {
@@ -27,16 +27,16 @@ enum Command {
 impl Command {
     // The command of a line, if it has one.
     fn parse(line: &str) -> Option<Command> {
-        match word(line, 0)? {
-            "offer" => Some(Command::Offer {
+        match line.split_once(' ')? {
+            ("offer", _) => Some(Command::Offer {
                 channel: number(line, 1),
                 envelope: Envelope {
                     status: number(line, 2) == 1,
                     octet: (number(line, 3) % 256) as u8,
                 },
             }),
-            "send" => Some(Command::Send {
-                justification: word(line, 1)?.parse().unwrap_or(0),
+            ("send", rest) => Some(Command::Send {
+                justification: rest.parse().unwrap_or(0),
             }),
             _ => None,
         }
@@ -76,7 +76,7 @@ fn play_over<B: Bank + Drop>(
     mut other: B,
 ) -> anyhow::Result<()> {
     let plan = script::plan_of(lines);
-    let mut station = Station::placed(plan, bank, 1, script::mode_of(lines));
+    let mut station = Station::placed(plan, bank, 1, script::mode_at_end(lines));
     for line in lines {
         rt.println(line.as_str())?;
         match Command::parse(line.as_str()) {
@@ -115,7 +115,8 @@ fn measure(count: u32) -> usize {
     sum
 }
 
-// With a number as the argument measures so many frames, else plays the script on standard input.
+// With a number as the argument measures so many frames, else plays the script on standard input, each case once the next
+// begins, so that it holds the lines of one.
 // Each program over scripts reads what it is given itself, since no contract can say what that is.
 fn main(rt: HostRuntime) -> anyhow::Result<()> {
     if let Some(count) = env::args(&rt)?.nth(1) {
@@ -124,6 +125,9 @@ fn main(rt: HostRuntime) -> anyhow::Result<()> {
         return Ok(());
     }
     let input = BufReader::new(rt.alloc(), rt.stdin())?;
-    let lines: io::Result<Vec<String>> = input.lines(rt.alloc()).collect(rt.alloc())?;
-    script::each_case(&lines?, |case| play(&rt, case))
+    let mut lines = Vec::new(rt.alloc());
+    for line in input.lines(rt.alloc()) {
+        script::add_line(&mut lines, line?, |case| play(&rt, case))?;
+    }
+    script::each_case(&lines, |case| play(&rt, case))
 }

@@ -16,12 +16,11 @@ use frame::Mode;
 use frame::content::LONGEST;
 use pattern_bank::PatternBank;
 use queue_bank::{MEMORY, QueueBank};
-use script::word;
 use station::{Delivery, Station};
 use std::alloc::{AllocError, Global};
 use std::env;
 use std::fmt::Write;
-use std::io::{self, BufRead, BufReader};
+use std::io::{BufRead, BufReader};
 
 // How many bits a station received, and how many envelopes it was given.
 #[derive(Clone, Copy, PartialEq, Eq)]
@@ -33,9 +32,9 @@ struct Sum {
 // A station as the first line of a case, `case NAME MODE START`, says.
 fn station_of<B: Bank>(lines: &[String], bank: B) -> Station<B> {
     let plan = script::plan_of(lines);
-    let mode = script::mode_of(lines);
-    match lines.first().and_then(|line| word(line.as_str(), 3)) {
-        Some("hunting") => Station::hunting(plan, bank, 1, mode),
+    let mode = script::mode_between(lines);
+    match lines.first() {
+        Some(line) if line.as_str().ends_with(" hunting") => Station::hunting(plan, bank, 1, mode),
         _ => Station::placed(plan, bank, 1, mode),
     }
 }
@@ -197,7 +196,8 @@ fn measure(count: u32) -> usize {
     sum
 }
 
-// With a number as the argument measures so many frames, else plays the script on standard input.
+// With a number as the argument measures so many frames, else plays the script on standard input, each case once the next
+// begins, so that it holds the lines of one.
 // Each program over scripts reads what it is given itself, since no contract can say what that is.
 fn main(rt: HostRuntime) -> anyhow::Result<()> {
     if let Some(count) = env::args(&rt)?.nth(1) {
@@ -206,6 +206,9 @@ fn main(rt: HostRuntime) -> anyhow::Result<()> {
         return Ok(());
     }
     let input = BufReader::new(rt.alloc(), rt.stdin())?;
-    let lines: io::Result<Vec<String>> = input.lines(rt.alloc()).collect(rt.alloc())?;
-    script::each_case(&lines?, |case| play(&rt, case))
+    let mut lines = Vec::new(rt.alloc());
+    for line in input.lines(rt.alloc()) {
+        script::add_line(&mut lines, line?, |case| play(&rt, case))?;
+    }
+    script::each_case(&lines, |case| play(&rt, case))
 }

@@ -1,2 +1,3 @@
 pub mod Busy
+pub mod Numbers
 pub mod Parting

@@ -1,12 +1,13 @@
--- The first case of a script, and the others.
-use Rattle.std.proofs.Common.{◌≡◌, Ok, Err, Result, ℕ, ◌+◌, suc, Bool, true, false, cond, not, ltb, List, [], ◌∷◌, length, String, take, drop, refl, ap, ◌∙◌, sym, arith}
+-- The first case of a script, and the others; and a script cut where a case begins.
+use Rattle.std.proofs.Common.{◌≡◌, Ok, Err, Result, ℕ, ◌+◌, suc, Bool, true, false, cond, not, ltb, List, [], ◌∷◌, ◌++◌, length, String, take, drop, refl, ap, ◌∙◌, sym, arith}
+use Rattle.std.proofs.lemmas.Bool.{cond-true}
 use Rattle.std.proofs.lemmas.Bool.Decides.{nat_tests}
 use Rattle.std.proofs.lemmas.List.Sums.{prefix_len-le-length}
 use Rattle.std.proofs.Math.Numerals.{add-one}
 use Rattle.std.specs.List.{onto_first, position, position_or_len}
 use Rattle.std.specs.Option.{unwrap_or}
 use Rattle.std.specs.Result.{IsErrAnd}
-use Rattle.script.specs.Cases.{begins, cases}
+use Rattle.script.specs.Cases.{Cut, begins, cases}
 
 module _ {Z : Type 0} where
   -- the lines up to the next that begins a case, and the cases of those from there on
@@ -35,6 +36,30 @@ module _ {Z : Type 0} where
   pub first_cut : (x : String Z) (xs : List (String Z)) (n : ℕ) → n ≡ unwrap_or (position begins xs) (length xs)
       → cases (x ∷ xs) ≡ take (n + 1) (x ∷ xs) ∷ cases (drop (n + 1) (x ∷ xs))
   first_cut x xs n e = rw (e ∙ next_place xs) (rw (add-one (position_or_len begins xs)) (first_suc x xs))
+
+  onto : (x : String Z) (c : List (String Z)) (cs ds parts : List (List (String Z))) → parts ≡ c ∷ cs → onto_first x (parts ++ ds) ≡ onto_first x parts ++ ds
+  onto x c cs ds parts e = rw e refl
+
+  -- a case that begins behind other lines is none of theirs
+  apart : (line : String Z) (after : List (String Z)) → begins line ≡ true → (x : String Z) (xs : List (String Z))
+      → cases (x ∷ (xs ++ line ∷ after)) ≡ cases (x ∷ xs) ++ cases (line ∷ after)
+  apart line after b x [] = cond-true (begins line) _ _ b
+  apart line after b x (y ∷ ys) =
+      elim (begins y) as (λ c.
+      cond c ((x ∷ []) ∷ cases (y ∷ (ys ++ line ∷ after))) (onto_first x (cases (y ∷ (ys ++ line ∷ after))))
+      ≡ cond c ((x ∷ []) ∷ cases (y ∷ ys)) (onto_first x (cases (y ∷ ys))) ++ cases (line ∷ after)) [
+        | true ↦ ap (λ cs. (x ∷ []) ∷ cs) (apart line after b y ys)
+        | false ↦ ap (onto_first x) (apart line after b y ys) ∙ onto x _ _ (cases (line ∷ after)) (cases (y ∷ ys)) (first_suc y ys)
+      ]
+
+  cut_by : (line : String Z) (after : List (String Z)) (b : Bool) → begins line ≡ b → (xs : List (String Z))
+      → cases (xs ++ line ∷ after) ≡ cond b (cases xs) [] ++ cases (cond b [] xs ++ line ∷ after)
+  cut_by line after true e [] = refl
+  cut_by line after true e (x ∷ xs) = apart line after e x xs
+  cut_by line after false e xs = refl
+
+  pub cut_at : (lines : List (String Z)) (line : String Z) → Cut lines line
+  cut_at lines line = λ after. cut_by line after (begins line) refl lines
 
 pub is_that_err : {X E : Type 0} (r : Result X E) (e : E) → IsErrAnd r (λ d. d ≡ e) → Err e ≡ r
 is_that_err (Ok x) e h = absurd h

@@ -1,8 +1,9 @@
 // The cases of a script.
-ghost use Rattle.std.specs.Prelude.{◌≡◌, ◌<◌, [], ◌∷◌, length, IfSome, MatchOption};
+ghost use Rattle.std.specs.Prelude.{◌≡◌, ◌<◌, [], ◌∷◌, ◌++◌, codes, length, IfSome, MatchOption, OnErr, OnOk};
 ghost use Rattle.std.specs.List.{position};
 ghost use Rattle.std.specs.Option.{unwrap_or};
-ghost use Rattle.script.specs.Cases.{Plays, begins, cases, mode_of};
+ghost use Rattle.std.specs.Str.Iter.{HasSubslice};
+ghost use Rattle.script.specs.Cases.{Cut, EndsWith, JustifiedWhere, NotTaken, Plays, begins, cases, ended, first_line, kept};
 
 use crate::words::word;
 use frame::Mode;
@@ -12,7 +13,7 @@ use frame::Mode;
 fn begins(line: &String) -> bool
     ensures { result ≡ begins line.now }
 {
-    word(line.as_str(), 0) == Some("case")
+    word(line.as_str(), 0) == Some("case") && word(line.as_str(), 1).is_some()
 }
 
 // How many lines come before the next case.
@@ -48,12 +49,52 @@ pub fn each_case<F: FnMut(&[String]) -> anyhow::Result<()>>(
     Ok(())
 }
 
-/// The mode of a case whose first line is `case NAME MODE ..`.
-pub fn mode_of(lines: &[String]) -> Mode
-    ensures { result ≡ mode_of lines.now }
+/// Takes the next line of a script, of which `lines` holds those of the case so far: where a case begins at it, that
+/// case is played first, and its lines go.
+pub fn add_line<F: FnMut(&[String]) -> anyhow::Result<()>>(
+    lines: &mut Vec<String>,
+    line: String,
+    play: F,
+) -> anyhow::Result<()>
+    requires { F.IsAlwaysCallable play }
+    ensures played { OnOk result (Plays F.FnMut play (ended lines.old.items line) (Ok tt)) }
+    ensures left { OnOk result (lines.new.items ≡ kept lines.old.items line ++ line ∷ []) }
+    ensures cut { Cut lines.old.items line }
+    ensures not_taken { OnErr result (NotTaken F.FnMut play lines.old line lines.new result) }
 {
-    match lines.first().and_then(|line| word(line.as_str(), 2)) {
-        Some("justified") => Mode::Justified,
-        _ => Mode::Synchronous,
+    if begins(&line) {
+        each_case(lines, play)?;
+        lines.clear();
+    }
+    lines.push(line)?;
+    Ok(())
+}
+
+// The first line of a case, or nothing where it has none.
+fn first_line(lines: &[String]) -> &str
+    ensures { result.now ≡ first_line lines.now }
+{
+    lines.first().map_or("", |line| line.as_str())
+}
+
+/// The mode of a case whose first line ends with it, as `case NAME MODE`.
+pub fn mode_at_end(lines: &[String]) -> Mode
+    ensures { JustifiedWhere (EndsWith (first_line lines.now) (codes " justified")) result }
+{
+    if first_line(lines).ends_with(" justified") {
+        Mode::Justified
+    } else {
+        Mode::Synchronous
+    }
+}
+
+/// The mode of a case in whose first line a word follows it, as `case NAME MODE START`.
+pub fn mode_between(lines: &[String]) -> Mode
+    ensures { JustifiedWhere (HasSubslice (first_line lines.now) (codes " justified ")) result }
+{
+    if first_line(lines).contains(" justified ") {
+        Mode::Justified
+    } else {
+        Mode::Synchronous
     }
 }

@@ -7,6 +7,6 @@ mod plans;
 mod words;
 
 pub use banks::with_bank;
-pub use cases::{each_case, mode_of};
+pub use cases::{add_line, each_case, mode_at_end, mode_between};
 pub use plans::{busy_plan, plan_of};
 pub use words::{number, word};
