@@ -29,13 +29,13 @@ module _ (h : Header) (t : Entries) (line byte : ℕ) where
     by_line = ap (with_lines h t line byte) (cut_split 10 [] text row after cut)
 
     -- one line is taken
-    line_more : (u : Entries) → Ok tt ≡ answer (with_line h t line byte row) → u ≡ left (with_line h t line byte row) t → with_lines h u (line + 1) (byte + (length row + 1)) (lines after) ≡ with_lines h t line byte (lines text)
+    pub line_more : (u : Entries) → Ok tt ≡ answer (with_line h t line byte row) → u ≡ left (with_line h t line byte row) t → with_lines h u (line + 1) (byte + (length row + 1)) (lines after) ≡ with_lines h t line byte (lines text)
     line_more u ok is =
         ap (λ v. with_lines h v (line + 1) (byte + (length row + 1)) (lines after)) is
         ∙ sym (by_line ∙ ap (λ o. and_then o (λ v. with_lines h v (line + 1) (byte + (length row + 1)) (lines after))) (was_ok (with_line h t line byte row) t ok))
 
     -- one line is refused
-    line_refused : (e : FileRefusal) → Err e ≡ answer (with_line h t line byte row) → with_lines h t line byte (lines text) ≡ Err e
+    pub line_refused : (e : FileRefusal) → Err e ≡ answer (with_line h t line byte row) → with_lines h t line byte (lines text) ≡ Err e
     line_refused e err = by_line ∙ ap (λ o. and_then o (λ u. with_lines h u (line + 1) (byte + (length row + 1)) (lines after))) (was_err (with_line h t line byte row) e err)
 
 -- the same, by what the iterator over the lines gives

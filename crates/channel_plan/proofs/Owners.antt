@@ -4,8 +4,8 @@ use Rattle.std.proofs.lemmas.Bool.{eqb-true, eq-eqb, cond-true, cond-false, fals
 use Rattle.std.proofs.lemmas.Bool.Decides.{nat_tests}
 use Rattle.channel_plan.specs.declared.row.Assignment.{Assignment}
 use Rattle.channel_plan.specs.Rows.{owns}
-use Rattle.channel_plan.specs.Entries.{Entries, is_channel, row_at, passes, holds, owner_from}
-use Rattle.channel_plan.specs.Tables.{Table, Owns, OwnerIs}
+use Rattle.channel_plan.specs.Entries.{Entries, is_channel, row_at, passes, holds, owner_from, Apart}
+use Rattle.channel_plan.specs.Tables.{Owns, OwnerIs}
 
 -- the owner found from channel k on is among the entries, and its row has the slot
 pub record Found (k : ℕ) (t : Entries) (s c : ℕ) : Type 0 where
@@ -61,14 +61,14 @@ row_at_entry : (t : Entries) (c : ℕ) → 1 ≤ c → c ≤ 80 → row_at t c �
 row_at_entry t c low high = cond-true (is_channel c) _ _ (grind (arith, nat_tests))
 
 -- what a row that has the slot says
-row_says : (t : Table) (c s : ℕ) → s < 240 → holds t.entries c s ≡ true → Owns t c s
-row_says t c s h e = at (row_at t.entries c) refl e
+row_says : (t : Entries) (c s : ℕ) → s < 240 → holds t c s ≡ true → Owns t c s
+row_says t c s h e = at (row_at t c) refl e
   where
-    at : (o : Option Assignment) → row_at t.entries c ≡ o → passes (λ a. owns a s) o ≡ true → Owns t c s
+    at : (o : Option Assignment) → row_at t c ≡ o → passes (λ a. owns a s) o ≡ true → Owns t c s
     at None p q = absurd (false≢true q)
     at (Some a) p q = record { row = a; there = p; framed = h; falls = eqb-true _ _ q }
 
-owns_holds : (t : Table) (c s : ℕ) → Owns t c s → holds t.entries c s ≡ true
+owns_holds : (t : Entries) (c s : ℕ) → Owns t c s → holds t c s ≡ true
 owns_holds t c s o = ap (passes (λ a. owns a s)) o.there ∙ eq-eqb _ _ o.falls
 
 -- a channel that has a row is one of the eighty
@@ -87,21 +87,21 @@ owner_known t s long = at (owner_from 1 t s) refl
     at None e = tt
     at (Some c) e = let f = found 1 t s c e in (omega (arith, f.from), omega (arith, f.within))
 
-module _ (t : Table) (s : ℕ) (framed : s < 240) where
-  owner_holds : (c : ℕ) → owner_from 1 t.entries s ≡ Some c → holds t.entries c s ≡ true
+module _ (t : Entries) (long : length t ≡ 80) (apart : Apart t) (s : ℕ) (framed : s < 240) where
+  owner_holds : (c : ℕ) → owner_from 1 t s ≡ Some c → holds t c s ≡ true
   owner_holds c e =
-      let f = found 1 t.entries s c e in
-      ap (passes (λ a. owns a s)) (row_at_entry t.entries c f.from (omega (arith, f.within, t.long))) ∙ f.has
+      let f = found 1 t s c e in
+      ap (passes (λ a. owns a s)) (row_at_entry t c f.from (omega (arith, f.within))) ∙ f.has
 
-  one_owner : (c d : ℕ) → holds t.entries c s ≡ true → holds t.entries d s ≡ true → c ≡ d
-  one_owner c d p q = let none = t.apart c d s in grind (arith, nat_tests)
+  one_owner : (c d : ℕ) → holds t c s ≡ true → holds t d s ≡ true → c ≡ d
+  one_owner c d p q = let none = apart c d s in grind (arith, nat_tests)
 
-  pub owner_is : (c : ℕ) → OwnerIs t s (owner_from 1 t.entries s) c
+  pub owner_is : (c : ℕ) → OwnerIs t s (owner_from 1 t s) c
   owner_is c = record { owner = λ e. row_says t c s framed (owner_holds c e); only = only }
     where
-      only : Owns t c s → owner_from 1 t.entries s ≡ Some c
+      only : Owns t c s → owner_from 1 t s ≡ Some c
       only o =
-          let in-range = is_channel_lem t.entries c o.row o.there in
-          let there : passes (λ a. owns a s) (get_or t.entries (c - 1) None) ≡ true = ap (passes (λ a. owns a s)) (sym (row_at_entry t.entries c (grind (arith, nat_tests)) (grind (arith, nat_tests)))) ∙ owns_holds t c s o in
-          let d = finds 1 t.entries s (c - 1) there in
+          let in-range = is_channel_lem t c o.row o.there in
+          let there : passes (λ a. owns a s) (get_or t (c - 1) None) ≡ true = ap (passes (λ a. owns a s)) (sym (row_at_entry t c (grind (arith, nat_tests)) (grind (arith, nat_tests)))) ∙ owns_holds t c s o in
+          let d = finds 1 t s (c - 1) there in
           d.1 ∙ ap Some (one_owner d.0 c (owner_holds d.0 d.1) (owns_holds t c s o))

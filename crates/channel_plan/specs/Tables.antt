@@ -1,7 +1,7 @@
 -- The owner of a slot by a table of rows.
 use Rattle.std.specs.Prelude.{◌≡◌, ℕ, ◌%◌, ◌<◌, Some, Option}
 use Rattle.channel_plan.specs.declared.row.Assignment.{Assignment}
-use Rattle.channel_plan.specs.Entries.{owner_among, row_at}
+use Rattle.channel_plan.specs.Entries.{Entries, owner_among, row_at}
 use Rattle.channel_plan.specs.Rates.{period}
 use Rattle.channel_plan.specs.declared.table.Table.{Table as Rows}
 
@@ -14,13 +14,13 @@ abbrev pub owner_of : Table → ℕ → Option ℕ
 owner_of t s = owner_among t.entries s
 
 -- channel c has a row, and its period and first slot give it slot s of the frame
-pub record Owns (t : Table) (c s : ℕ) : Type 0 where
+pub record Owns (t : Entries) (c s : ℕ) : Type 0 where
   pub row : Assignment
-  pub there : row_at t.entries c ≡ Some row
+  pub there : row_at t c ≡ Some row
   pub framed : s < 240
   pub falls : s % period row.rate ≡ row.first
 
 -- channel c is the answer exactly if it owns the slot
-pub record OwnerIs (t : Table) (s : ℕ) (answer : Option ℕ) (c : ℕ) : Type 0 where
+pub record OwnerIs (t : Entries) (s : ℕ) (answer : Option ℕ) (c : ℕ) : Type 0 where
   pub owner : answer ≡ Some c → Owns t c s
   pub only : Owns t c s → answer ≡ Some c

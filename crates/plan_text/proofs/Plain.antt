@@ -12,7 +12,7 @@ own : IsNumeralModel (λ ds. all_ascii_digits ds ≡ true) (reading 0)
 own = numerals_by_fold _ tells_all_ascii_digits reading (search rules)
 
 -- what is read only grows
-reading_ge : (n : ℕ) (ds : List ℕ) → n ≤ reading n ds
+pub reading_ge : (n : ℕ) (ds : List ℕ) → n ≤ reading n ds
 reading_ge n [] = omega arith
 reading_ge n (d ∷ ds) = omega (arith, reading_ge (n * 10 + (d - 48)) ds)
 

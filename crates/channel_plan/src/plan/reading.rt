@@ -22,7 +22,7 @@ impl Plan {
     /// The channel that owns a slot of the frame.
     pub fn owner(&self, slot: u16) -> Option<u16>
         ensures value { result ≡ owner_of self.now.table slot }
-        ensures exact { (c : ℕ) → OwnerIs self.now.table slot result c }
+        ensures exact { (c : ℕ) → OwnerIs self.now.table.entries slot result c }
         ensures known { IfSome result (λ c. (0 < c) × (c ≤ 80)) }
     {
         *self.owners.get(usize::from(slot))?

@@ -14,6 +14,6 @@ returns c =
     let is : c.in_ok-get.field-0.now ≡ owner_from 1 p.table.entries s = read ∙ p.owned s framed ∙ cond-true _ _ _ (lt-ltb s 240 framed) in
     record {
       value = read ∙ p.owned s framed;
-      exact = λ k. subst (λ o. OwnerIs p.table s o k) (sym is) (owner_is p.table s framed k);
+      exact = λ k. subst (λ o. OwnerIs p.table.entries s o k) (sym is) (owner_is p.table.entries p.table.long p.table.apart s framed k);
       known = subst (λ o. IfSome o (λ k. (0 < k) × (k ≤ 80))) (sym is) (owner_known p.table.entries s p.table.long);
     }
