@@ -1,5 +1,5 @@
 -- Look-ups in a table of rows, and what one row more keeps.
-use Rattle.std.proofs.Common.{◌≡◌, ℕ, zero, suc, ◌+◌, ◌-◌, ◌<◌, ◌≤◌, Bool, true, false, cond, not, ◌&&◌, eqb, ltb, [], ◌∷◌, ◌++◌, length, get_or, set, is_some, IfSome, replicate, Some, None, Ok, Option, sym, refl, ap, ◌∙◌, subst, ⊎_elim, arith}
+use Rattle.std.proofs.Common.{◌≡◌, ℕ, zero, suc, ◌+◌, ◌-◌, ◌<◌, ◌≤◌, Bool, true, false, cond, not, ◌&&◌, ◌||◌, eqb, ltb, [], ◌∷◌, ◌++◌, length, get_or, set, fold, is_some, IfSome, replicate, Some, None, Ok, Option, sym, refl, ap, ◌∙◌, subst, ⊎_elim, arith}
 use Rattle.std.proofs.lemmas.List.{get_or-set_same, get_or-set_other, at_drop_more, at_drop_all}
 use Rattle.std.proofs.lemmas.Bool.{and_right, or_parts, cases_eq, eq-eqb, ne_eqb, cond-true, cond-false, false≢true, true≢false}
 use Rattle.std.proofs.lemmas.Bool.Decides.{nat_tests}
@@ -123,6 +123,28 @@ no_conflict t a e = at (some_row (mixes a) t) (some_row (shares a) t) e
     at false true p = cc
     at false false p = (refl, refl)
 
+-- what the entries so far say of an assignment, and one entry more: whether one mixes with it, and whether one shares a slot
+abbrev pub clash : Assignment → Bool × Bool → Option Assignment → Bool × Bool
+clash a f o = (f.0 || passes (mixes a) o, f.1 || passes (shares a) o)
+
+pub clash_all : (a : Assignment) (f : Bool × Bool) (t : Entries) → fold (clash a) f t ≡ (f.0 || some_row (mixes a) t, f.1 || some_row (shares a) t)
+clash_all a f [] = λ i. (or_none f.0 i, or_none f.1 i)
+  where
+    or_none : (x : Bool) → x ≡ (x || false)
+    or_none true = refl
+    or_none false = refl
+clash_all a f (o ∷ t) =
+    clash_all a (clash a f o) t
+    ∙ (λ i. (or_or f.0 (passes (mixes a) o) (some_row (mixes a) t) i, or_or f.1 (passes (shares a) o) (some_row (shares a) t) i))
+  where
+    or_or : (x y z : Bool) → ((x || y) || z) ≡ (x || (y || z))
+    or_or true y z = refl
+    or_or false y z = refl
+
+-- the row of a channel is its entry
+pub entry_at : (t : Entries) (i : ℕ) → i < 80 → row_at t (i + 1) ≡ get_or t i None
+entry_at t i below = cond-true (is_channel (i + 1)) _ _ (grind (arith, nat_tests)) ∙ ap (λ k. get_or t k None) (omega arith)
+
 -- where no channel above c up to the i-th has a row, the rows after c are those after the i-th
 skipped : (t : Entries) (n c : ℕ) → ((k : ℕ) → c ≤ k → k < c + n → is_some (row_at t (k + 1)) ≡ false) → n ≤ 80 - c → length t ≡ 80 → rows_after t c ≡ rows_after t (c + n)
 skipped t zero c none low long = ap (rows_after t) (omega arith)
@@ -133,7 +155,7 @@ skipped t (suc n) c none low long =
     ∙ ap (rows_after t) (omega arith)
   where
     there : row_at t (c + 1) ≡ get_or t c None
-    there = cond-true (is_channel (c + 1)) _ _ (grind (arith, nat_tests)) ∙ ap (λ k. get_or t k None) (omega arith)
+    there = entry_at t c (omega arith)
 
     no_row : is_some (row_at t (c + 1)) ≡ false → get_or t c None ≡ None
     no_row e = at (get_or t c None) refl (ap is_some (sym there) ∙ e)
@@ -152,7 +174,7 @@ pub rows_next : (t : Entries) (c i : ℕ) → length t ≡ 80 → c ≤ i → i 
 rows_next t c i long from below is before = at (row_at t (i + 1)) refl is
   where
     there : row_at t (i + 1) ≡ get_or t i None
-    there = cond-true (is_channel (i + 1)) _ _ (grind (arith, nat_tests)) ∙ ap (λ k. get_or t k None) (omega arith)
+    there = entry_at t i below
 
     at : (o : Option Assignment) → row_at t (i + 1) ≡ o → is_some o ≡ true → NextRow t c (as_row (i + 1) o)
     at None p q = absurd (false≢true q)

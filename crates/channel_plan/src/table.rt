@@ -48,32 +48,28 @@ impl Table {
         })
     }
 
-    // Whether a row of the assignment's group has another rate.
-    // This and the next are one line each: one method with the test as a parameter would want a clause over every test.
-    fn mixes(&self, new: Assignment) -> bool
-        ensures { result ≡ some_row (mixes new) self.now.entries }
+    // Whether a row of the assignment's group has another rate, and whether a row has a slot of it. One pass
+    // tells both, since a table is asked at every row that is added.
+    fn clashes(&self, new: Assignment) -> (bool, bool)
+        ensures mixed { result.0 ≡ some_row (mixes new) self.now.entries }
+        ensures taken { result.1 ≡ some_row (shares new) self.now.entries }
     {
         self.entries
             .iter()
-            .any(|entry| entry.is_some_and(|other| new.mixes(other)))
-    }
-
-    // Whether a row has a slot of the assignment.
-    fn shares(&self, new: Assignment) -> bool
-        ensures { result ≡ some_row (shares new) self.now.entries }
-    {
-        self.entries
-            .iter()
-            .any(|entry| entry.is_some_and(|other| new.shares(other)))
+            .fold((false, false), |(mixed, taken), entry| match entry {
+                Some(other) => (mixed || new.mixes(*other), taken || new.shares(*other)),
+                None => (mixed, taken),
+            })
     }
 
     // Whether the assignment can stand beside the rows, or why not.
     pub(crate) fn admits(&self, new: Assignment) -> Result<(), RowRefusal>
         ensures { result ≡ answer (unless (conflict self.now.entries new) new) }
     {
-        if self.mixes(new) {
+        let (mixed, taken) = self.clashes(new);
+        if mixed {
             Err(RowRefusal::GroupRate)
-        } else if self.shares(new) {
+        } else if taken {
             Err(RowRefusal::SlotTaken)
         } else {
             Ok(())
@@ -114,7 +110,10 @@ impl Table {
         ensures next { NextRow self.now.entries channel result }
         ensures above { IfSome result (λ row. (channel < row.channel) × (row.channel ≤ 80)) }
     {
-        let seen = (channel..80).find(|seen| self.assigned(*seen + 1).is_some())?;
-        self.row(seen + 1)
+        let seen = (channel..80).find(|seen| self.entries[usize::from(*seen)].is_some())?;
+        self.entries[usize::from(seen)].map(|found| Row {
+            channel: seen + 1,
+            assignment: found,
+        })
     }
 }
