@@ -1,12 +1,11 @@
 // The faults that wait to be read.
 ghost use Rattle.std.specs.Prelude.{◌≡◌};
 ghost use Rattle.ring.specs.Queue.{oldest};
-ghost use Rattle.station.specs.Faults.{no_faults, noted, without_first};
+ghost use Rattle.station.specs.Faults.{no_faults, noted, told_by, without_first};
 
 use crate::event::Fault;
 use reception::FaultKind;
 use ring::Ring;
-use std::marker::Model;
 
 /// How many faults can wait.
 pub const PLACES: usize = 64;
@@ -20,7 +19,8 @@ const NO_FAULT: Fault = Fault {
 
 /// A queue of 64 records, and how many later ones were lost.
 // The records lie in the station's own memory, as a ring.
-#[derive(Clone, Drop)]
+// It can be copied, so it has no model: the queue doesn't tell where the oldest place of the ring lies.
+#[derive(Clone, Copy)]
 pub struct Faults {
     ring: Ring,
     memory: [Fault; PLACES],
@@ -28,19 +28,9 @@ pub struct Faults {
     pub lost: u16,
 }
 
-impl Model for Faults {
-    ghost use Rattle.station.specs.Faults.{Told};
-
-    ghost Value = { Told };
-
-    ghost use Rattle.ring.specs.Held.{queue};
-
-    ghost view = { λ a. record { waiting = queue a.ring a.memory; lost = a.lost } };
-}
-
 impl Faults {
     pub(crate) fn new() -> Faults
-        ensures { result ≡ no_faults }
+        ensures { told_by result ≡ no_faults }
     {
         Faults {
             ring: Ring::new(0, PLACES),
@@ -51,7 +41,7 @@ impl Faults {
 
     // Adds a fault, or counts it as lost where 64 wait.
     pub(crate) fn note(&mut self, fault: Fault)
-        ensures { self.new ≡ noted self.old fault }
+        ensures { told_by self.new ≡ noted (told_by self.old) fault }
     {
         if !self.ring.put(&mut self.memory, fault) {
             self.lost = self.lost.saturating_add(1);
@@ -60,8 +50,8 @@ impl Faults {
 
     /// Takes the oldest fault out.
     pub fn take(&mut self) -> Option<Fault>
-        ensures answer { result ≡ oldest self.old.waiting }
-        ensures left { self.new ≡ without_first self.old }
+        ensures answer { result ≡ oldest (told_by self.old).waiting }
+        ensures left { told_by self.new ≡ without_first (told_by self.old) }
     {
         self.ring.take(&self.memory)
     }

@@ -1,6 +1,7 @@
 // Receiving a run of bits.
 ghost use Rattle.std.specs.Prelude.{◌≡◌, is_some, length};
 ghost use Rattle.channel_plan.specs.Tables.{owner_of};
+ghost use Rattle.station.specs.Faults.{told_by};
 ghost use Rattle.station.specs.Hearing.{event, given_if, noted_if, stepped_line};
 ghost use Rattle.station.specs.Pieces.{Pieces};
 ghost use Rattle.station.specs.Receiving.{accepted, faults_in, give_all, given, line_after, note_all, received_accounts, received_answer, received_faults, received_line, refused_run};
@@ -38,7 +39,7 @@ impl<B: Bank> Station<B> {
         ensures answer { result ≡ received_answer (owner_of self.old.plan.table) (refused_run run.now) self.old.line run.now }
         ensures line { self.new.line ≡ received_line (owner_of self.old.plan.table) (refused_run run.now) self.old.line run.now }
         ensures accounts { B.account self.new.bank ≡ received_accounts (owner_of self.old.plan.table) (refused_run run.now) self.old.line run.now B.meaning (B.account self.old.bank) }
-        ensures faults { self.new.faults ≡ received_faults (owner_of self.old.plan.table) (refused_run run.now) self.old.line run.now self.old.faults }
+        ensures faults { told_by self.new.faults ≡ received_faults (owner_of self.old.plan.table) (refused_run run.now) self.old.line run.now (told_by self.old.faults) }
         ensures plan { self.new.plan ≡ self.old.plan }
         ensures pieces { Pieces (owner_of self.old.plan.table) self.old.line run.now }
     {
@@ -62,7 +63,7 @@ impl Line {
         ensures count { result ≡ length (given (owner_of plan.now.table) self.old run.now) }
         ensures line { self.new ≡ line_after (owner_of plan.now.table) self.old run.now }
         ensures accounts { B.account bank.new ≡ give_all B.meaning (B.account bank.old) (given (owner_of plan.now.table) self.old run.now) }
-        ensures faults { faults.new ≡ note_all faults.old (faults_in (owner_of plan.now.table) self.old run.now) }
+        ensures faults { told_by faults.new ≡ note_all (told_by faults.old) (faults_in (owner_of plan.now.table) self.old run.now) }
     {
         let mut given = 0;
         for bit in run {
@@ -84,7 +85,7 @@ impl Line {
         ensures answer { result ≡ is_some (event (owner_of plan.now.table) self.old bit).given }
         ensures line { self.new ≡ stepped_line (owner_of plan.now.table) self.old bit }
         ensures accounts { B.account bank.new ≡ given_if B.meaning (event (owner_of plan.now.table) self.old bit).given (B.account bank.old) }
-        ensures faults { faults.new ≡ noted_if (event (owner_of plan.now.table) self.old bit).fault faults.old }
+        ensures faults { told_by faults.new ≡ noted_if (event (owner_of plan.now.table) self.old bit).fault (told_by faults.old) }
     {
         let event = self.hear(plan, bit);
         if let Some(fault) = event.fault {

@@ -1,7 +1,7 @@
 // A station over any bank.
 ghost use Rattle.std.specs.Prelude.{◌≡◌};
 ghost use Rattle.reception.specs.Steps.{hunting_state, placed_state};
-ghost use Rattle.station.specs.Faults.{no_faults};
+ghost use Rattle.station.specs.Faults.{no_faults, told_by};
 ghost use Rattle.station.specs.Lines.{fresh_line};
 
 use crate::faults::Faults;
@@ -23,7 +23,8 @@ pub struct Station<B> {
 impl<B: Bank> Station<B> {
     // A station whose reception is in that state.
     fn new(plan: Plan, bank: B, number: u8, mode: Mode, state: Reception) -> Station<B>
-        ensures { result ≡ record { plan = plan; bank = bank; line = fresh_line mode number state; faults = no_faults } }
+        ensures made { result ≡ record { plan = plan; bank = bank; line = fresh_line mode number state; faults = result.faults } }
+        ensures faults { told_by result.faults ≡ no_faults }
     {
         Station {
             plan,
@@ -35,14 +36,16 @@ impl<B: Bank> Station<B> {
 
     /// A station that is aligned, and whose next bit received begins a frame.
     pub fn placed(plan: Plan, bank: B, number: u8, mode: Mode) -> Station<B>
-        ensures { result ≡ record { plan = plan; bank = bank; line = fresh_line mode number placed_state; faults = no_faults } }
+        ensures made { result ≡ record { plan = plan; bank = bank; line = fresh_line mode number placed_state; faults = result.faults } }
+        ensures faults { told_by result.faults ≡ no_faults }
     {
         Station::new(plan, bank, number, mode, Reception::placed())
     }
 
     /// A station that begins to hunt for alignment.
     pub fn hunting(plan: Plan, bank: B, number: u8, mode: Mode) -> Station<B>
-        ensures { result ≡ record { plan = plan; bank = bank; line = fresh_line mode number hunting_state; faults = no_faults } }
+        ensures made { result ≡ record { plan = plan; bank = bank; line = fresh_line mode number hunting_state; faults = result.faults } }
+        ensures faults { told_by result.faults ≡ no_faults }
     {
         Station::new(plan, bank, number, mode, Reception::hunting())
     }
