@@ -52,7 +52,7 @@ module _ (mode : Mode) (c : Content) (v : Valid c) where
   pub record Received (x : Receiver) : Type 0 where
     pub bare_shown : List (Option Conclusion)
     pub shows : shown mode x (frame mode c) ≡ map (laden_word c) bare_shown
-    pub clean : Clean (λ k. 0) 0 bare_shown
+    pub clean : Clean (λ k. 0) c.justification 0 bare_shown
     pub between : Between (next_check mode (frame mode c)) (receiver_after mode x (frame mode c)).state
 
   pub received : (x : Receiver) → Allows mode c.justification → Between c.check x.state → Received x
@@ -114,8 +114,8 @@ module _ (m : Meaning) (owner : Owners) (known : Channels owner) (s : Sender) (r
   unfolding sent_frame
   all_slots =
       let got = frame_received in
-      slots m owner known s.accounts s.line.records so.sends bits 0 r
-      (rw (so.mode, got.shows) (clean_laden c (word_at m owner s.accounts s.line.records) (word_is m owner s.accounts s.line) 0 got.bare_shown got.clean))
+      slots m owner known s.accounts s.line.records so.sends j bits 0 r
+      (rw (so.mode, got.shows) (clean_laden c (word_at m owner s.accounts s.line.records) (word_is m owner s.accounts s.line) j 0 got.bare_shown got.clean))
       (record { long = so.receives; bits = rw (records_none owner 1 s.line.records) so.bits })
 
   pub keeps_step : InStep (after_frame m owner s j).line (line_after owner r bits)

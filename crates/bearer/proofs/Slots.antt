@@ -4,10 +4,10 @@ use Rattle.std.specs.List.{range_with_len, AllByRecursion}
 use Rattle.std.specs.Option.{option_to_list}
 use Rattle.std.proofs.ByRecursion.{All-append}
 use Rattle.std.proofs.lemmas.List.{length-set}
-use Rattle.std.proofs.lemmas.Bool.{false≢true}
 use Rattle.std.proofs.lemmas.Grind.{elements}
 use Rattle.bank.specs.declared.Envelope.{Envelope}
 use Rattle.bank.specs.Meaning.{Accounts, Meaning}
+use Rattle.frame.specs.declared.mode.Justification.{Justification}
 use Rattle.reception.specs.declared.receiver.Conclusion.{Conclusion}
 use Rattle.reception.specs.declared.receiver.Conclusion.TheVariants as shows
 use Rattle.reception.specs.declared.receiver.FaultKind.{FaultKind}
@@ -28,10 +28,10 @@ use Rattle.bearer.proofs.Records.{only_records}
 use Rattle.bearer.proofs.Runs.{shown}
 
 -- what the ten bits of a slot hold
-envelope_in_word : (e : Envelope) (a : Bool) → envelope_in (word e a) ≡ carried e
+pub envelope_in_word : (e : Envelope) (a : Bool) → envelope_in (word e a) ≡ carried e
 envelope_in_word e a = grind arith
 
-alignment_in_word : (e : Envelope) (a : Bool) → alignment_in (word e a) ≡ a
+pub alignment_in_word : (e : Envelope) (a : Bool) → alignment_in (word e a) ≡ a
 alignment_in_word e a = grind arith
 
 -- a bit that alternates is not repeated
@@ -93,23 +93,22 @@ module _ (m : Meaning) (owner : Owners) (known : Channels owner) (f : Accounts) 
   given_from k = gathered (sent_at m owner f) (range_with_len k (240 - k))
 
   -- one conclusion of a clean frame, where slot k comes next
-  pub record Concluded (k : ℕ) (l : Line) (c : Option Conclusion) (cs : List (Option Conclusion)) : Type 0 where
+  pub record Concluded (j : Justification) (k : ℕ) (l : Line) (c : Option Conclusion) (cs : List (Option Conclusion)) : Type 0 where
     pub next : ℕ
-    pub rest : Clean word_of next cs
+    pub rest : Clean word_of j next cs
     pub synced : Synced next (concluded_line owner l c).records
     pub quiet : AllByRecursion (λ x. IsAlarm x.kind) (option_to_list (concluded_event owner l c).fault)
     pub given : option_to_list (concluded_event owner l c).given ++ given_from next ≡ given_from k
 
-  step : (k : ℕ) (l : Line) (c : Option Conclusion) (cs : List (Option Conclusion)) → Clean word_of k (c ∷ cs) → Synced k l.records → Concluded k l c cs
+  step : (j : Justification) (k : ℕ) (l : Line) (c : Option Conclusion) (cs : List (Option Conclusion)) → Clean word_of j k (c ∷ cs) → Synced k l.records → Concluded j k l c cs
   unfolding Clean gathered
-  step k l None cs h s = record { next = k; rest = h; synced = s; quiet = tt; given = refl }
-  step k l (Some (shows.Word i w)) cs h s =
+  step j k l None cs h s = record { next = k; rest = h; synced = s; quiet = tt; given = refl }
+  step j k l (Some (shows.Word i w)) cs h s =
       let one = slot k l s in
-      let more : 240 - k ≡ suc (240 - (k + 1)) = omega (arith, clean_le word_of cs (k + 1) h.1) in
+      let more : 240 - k ≡ suc (240 - (k + 1)) = omega (arith, clean_le word_of j cs (k + 1) h.1) in
       rw (h.0.0, h.0.1) (record { next = k + 1; rest = h.1; synced = one.synced; quiet = rw (one.quiet) tt; given = rw (one.given, more) })
-  step k l (Some (shows.Fault kind)) cs h s = record { next = k; rest = h.1; synced = rw (← alarm_past kind l.records h.0) s; quiet = (h.0, tt); given = refl }
-  step k l (Some (shows.Justification (Some j))) cs h s = record { next = k; rest = h.1; synced = s; quiet = tt; given = refl }
-  step k l (Some (shows.Justification None)) cs h s = absurd (false≢true h.0)
+  step j k l (Some (shows.Fault kind)) cs h s = record { next = k; rest = h.1; synced = rw (← alarm_past kind l.records h.0) s; quiet = (h.0, tt); given = refl }
+  step j k l (Some (shows.Justification told)) cs h s = rw (h.0) (record { next = k; rest = h.1; synced = s; quiet = tt; given = refl })
 
   -- all that a clean frame leaves from slot k on
   pub record Slots (k : ℕ) (l : Line) (bs : List ℕ) : Type 0 where
@@ -117,13 +116,13 @@ module _ (m : Meaning) (owner : Owners) (known : Channels owner) (f : Accounts) 
     pub quiet : AllByRecursion (λ x. IsAlarm x.kind) (faults_in owner l bs)
     pub given : given owner l bs ≡ given_from k
 
-  pub slots : (bs : List ℕ) (k : ℕ) (l : Line) → Clean word_of k (shown l.mode l.receiver bs) → Synced k l.records → Slots k l bs
+  pub slots : (j : Justification) (bs : List ℕ) (k : ℕ) (l : Line) → Clean word_of j k (shown l.mode l.receiver bs) → Synced k l.records → Slots k l bs
   unfolding Clean shown line_after stepped_line events event parts gathered
-  slots [] k l h s = record { synced = rw (← h) s; quiet = tt; given = rw h }
-  slots (b ∷ bs) k l h s =
+  slots j [] k l h s = record { synced = rw (← h) s; quiet = tt; given = rw h }
+  slots j (b ∷ bs) k l h s =
       let c = conclusion l.mode l.receiver b in
-      let here = step k (heard_line owner l b) c (shown l.mode (stepped l.mode l.receiver b) bs) h s in
-      let rest = slots bs here.next (stepped_line owner l b) (subst (λ (x : Line). Clean word_of here.next (shown x.mode x.receiver bs)) (sym (only_records owner (heard_line owner l b) c)) here.rest) here.synced in
+      let here = step j k (heard_line owner l b) c (shown l.mode (stepped l.mode l.receiver b) bs) h s in
+      let rest = slots j bs here.next (stepped_line owner l b) (subst (λ (x : Line). Clean word_of j here.next (shown x.mode x.receiver bs)) (sym (only_records owner (heard_line owner l b) c)) here.rest) here.synced in
       record {
         synced = rest.synced;
         quiet = All-append (λ x. IsAlarm x.kind) (option_to_list (event owner l b).fault) (faults_in owner (stepped_line owner l b) bs) here.quiet rest.quiet;

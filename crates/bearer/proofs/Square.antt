@@ -37,7 +37,7 @@ abbrev pub goes_on : Mode → Progress → Bool
 goes_on mode q = ltb q.place (frame_length (justification_by mode q.service.words) - 1)
 
 -- whatever the words, it does before the last two places
-far : (mode : Mode) (ws : List (Option ℕ)) (p : ℕ) → p < 2558 → ltb p (frame_length (justification_by mode ws) - 1) ≡ true
+pub far : (mode : Mode) (ws : List (Option ℕ)) (p : ℕ) → p < 2558 → ltb p (frame_length (justification_by mode ws) - 1) ≡ true
 far mode ws p h = grind (arith, nat_tests)
 
 -- what a bit holds of the words and the check is that beside a zero bit
@@ -71,7 +71,7 @@ module _ (mode : Mode) (c : Content) (v : Valid c) where
   unfolding word_front
   word_sum p k j s b small h = rw (h.slot) (front_sum 10 (get_or c.words k 0) (bit_at p) (j + 1) j s b (v.word k) h.small h.bit refl small)
 
-  word_kept : (p : ℕ) (h : Held) → InPadding p h → word_front c p ≡ word_front c (p + 1)
+  pub word_kept : (p : ℕ) (h : Held) → InPadding p h → word_front c p ≡ word_front c (p + 1)
   unfolding word_front
   word_kept p h i = ap (λ m. get_or c.words (m / 10) 0 / 2 ^ (10 - m % 10)) (sym i.kept)
 
