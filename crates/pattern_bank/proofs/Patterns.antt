@@ -65,6 +65,10 @@ module _ {F R A : Type 0} {g : Once F (MutBor Channel × Unit {0}) (R × (MutBor
       (sym (ap (λ p. p.0) e), ap accounts k.rows ∙ table_set (λ c. as_account (pattern_of c)) cs n k.left low (omega arith) ∙ ap (λ a. put_at n a (accounts cs)) (sym (ap (λ p. p.1) e)))
 
 module _ (n : ℕ) (t : is_channel n ≡ true) where
+  -- what an offer means on channel n, whatever its account
+  pub offered_is : (a : List ℕ) (e : Envelope) → pattern_meaning.offered n a e ≡ (true, as_account fresh)
+  offered_is a e = cond-true (is_channel n) _ _ t
+
   abbrev alike : List ℕ → Pattern
   alike r = record { sending = r; comparing = r; wrong = 0 }
 

@@ -2,7 +2,7 @@
 use Rattle.std.proofs.Common.{◌≡◌, ℕ, suc, ◌+◌, ◌-◌, ◌<◌, ◌≤◌, ltb, List, [], ◌∷◌, ◌++◌, length, get_or, take, drop, set, min, sym, refl, ap, ◌∙◌, ap₂, ⊎_elim, append_assoc, arith, length-append, length-drop, length-take, drop-set-lt}
 use lib.Seq.{take-set-lt, take-set-le, drop-set-add, take-append-add}
 use Rattle.std.specs.List.{slice_get}
-use Rattle.std.proofs.lemmas.List.{set-append_left, set-append_right, take_more_set, drop_more, take_more, drop_all, take-append-le, length-take-le, take_all, append-nil}
+use Rattle.std.proofs.lemmas.List.{set-append_left, set-append_right, get_or_append_left, get_or-append_right, get_or-take, get_or-drop, take_more_set, drop_more, take_more, drop_all, take-append-le, length-take-le, take_all, append-nil}
 use Rattle.std.proofs.lemmas.Bool.{cases_lt, cond-true, cond-false, lt-ltb, le-ltb}
 use Rattle.ring.specs.Held.{part, turned, place_at}
 
@@ -22,6 +22,9 @@ place_below h p k le lt =
 module _ {T : Type 0} where
   pub length_part : (b p : ℕ) (m : List T) → b + p ≤ length m → length (part b p m) ≡ p
   length_part b p m fit = length-take-le p (drop b m) (simp length-drop (omega arith))
+
+  pub get_or_part : (b p : ℕ) (m : List T) (k : ℕ) (d : T) → k < p → get_or (part b p m) k d ≡ get_or m (b + k) d
+  get_or_part b p m k d lt = get_or-take p (drop b m) k d lt ∙ get_or-drop b m k d
 
   part_set : (b p : ℕ) (m : List T) (a : ℕ) (x : T) → a < p → part b p (set m (b + a) x) ≡ set (part b p m) a x
   part_set b p m a x lt = ap (take p) (drop-set-add b m a x) ∙ take-set-lt p (drop b m) a x lt
@@ -52,6 +55,18 @@ module _ {T : Type 0} where
       (λ (high : p - h ≤ k).
       let i : k - (p - h) ≡ k - (length s - h) = omega arith in
       ap (λ j. turned h (set s j x)) (place_high h p k high ∙ i) ∙ set_high h s k x (omega arith) (omega arith) (omega arith))
+      (cases_lt k (p - h))
+
+  get_or_turned : (h p : ℕ) (s : List T) (k : ℕ) (d : T) → length s ≡ p → h ≤ p → k < p → get_or (turned h s) k d ≡ get_or s (place_at h p k) d
+  get_or_turned h p s k d e le lt =
+      ⊎_elim
+      (λ (low : k < p - h).
+      let here : k < length (drop h s) = simp length-drop (omega arith) in
+      get_or_append_left (drop h s) (take h s) d k here ∙ get_or-drop h s k d ∙ ap (λ i. get_or s i d) (sym (place_low h p k low)))
+      (λ (high : p - h ≤ k).
+      get_or-append_right (drop h s) (take h s) (p - h) k d (length-drop h s ∙ omega arith) high
+      ∙ get_or-take h s (k - (p - h)) d (omega arith)
+      ∙ ap (λ i. get_or s i d) (sym (place_high h p k high)))
       (cases_lt k (p - h))
 
   -- from the next place on, the oldest comes last
@@ -89,6 +104,13 @@ module _ {T : Type 0} where
       let w' : w ≡ suc (w - 1) = omega arith in
       let back : take (w - 1) (rest ++ (get_or s h d ∷ [])) ≡ take (w - 1) rest = take-append-le (w - 1) rest (get_or s h d ∷ []) (omega arith) in
       ap (λ l. take w l) old ∙ ap (λ i. take i (get_or s h d ∷ rest)) w' ∙ ap (λ l. get_or s h d ∷ l) (sym back ∙ ap (take (w - 1)) (sym new))
+
+  -- what stands k after the oldest
+  pub nth_list : (b p h w : ℕ) (m : List T) (k : ℕ) (d : T) → b + p ≤ length m → h ≤ p → w ≤ p → k < w → get_or (take w (turned h (part b p m))) k d ≡ get_or m (b + place_at h p k) d
+  nth_list b p h w m k d fit le wp lt =
+      get_or-take w (turned h (part b p m)) k d lt
+      ∙ get_or_turned h p (part b p m) k d (length_part b p m fit) le (omega arith)
+      ∙ get_or_part b p m (place_at h p k) d (place_below h p k le (omega arith))
 
   pub length_list : (b p h w : ℕ) (m : List T) → b + p ≤ length m → h ≤ p → w ≤ p → length (take w (turned h (part b p m))) ≡ w
   length_list b p h w m fit le wp =

@@ -1,13 +1,11 @@
-use Rattle.std.proofs.Common.{◌≡◌, false, unwrap_or, refl, sym, ap, ◌∙◌, inl, length, rules}
-use Rattle.std.proofs.lemmas.Bool.{cond-true}
+use Rattle.std.proofs.Common.{◌≡◌, ◌-◌, false, get_or, unwrap_or, refl, sym, ap, ◌∙◌, inl, length, rules}
 use Rattle.ring.specs.Held.{queue, Put}
 use Rattle.queue_bank.specs.Queues.{offer_to}
 use Rattle.queue_bank.specs.Account.{as_account}
 use Rattle.queue_bank.specs.Meaning.{queue_meaning, queue_laws}
 use Rattle.queue_bank.specs.Standing.{queues_of, Step}
-use Rattle.queue_bank.proofs.Accounts.{offered_account}
 use Rattle.queue_bank.proofs.Channels.{incoming_left, within_channel}
-use Rattle.queue_bank.proofs.Standings.{called_means}
+use Rattle.queue_bank.proofs.Standings.{offer_means, called_means}
 use Rattle.queue_bank.proofs.QueueBankBank.offer.Goals as goal
 
 pub returns : goal.returns
@@ -19,7 +17,8 @@ returns c =
     let e = c.args.e in
     let all =
     called_means b.rows m n b'.rows.channels b'.memory.now (λ o. unwrap_or o false) (λ a. queue_meaning.offered n a e) c.on_channel.result c.on_channel.ensures (λ a. queue_laws.no_offer n a e)
-    (λ s x s' m' t k.
+    (λ d x s' m' t k.
+    let s = get_or b.rows.channels (n - 1) d in
     let q = queues_of m s in
     let put : Put e s.outgoing m x s'.outgoing m' = search rules in
     let len : length m' ≡ length m = search rules in
@@ -32,5 +31,5 @@ returns c =
       size = len;
       outside = within_channel s s.outgoing m m' (inl refl) put.outside;
     } in
-    (offer_to q e, step, cond-true _ _ _ t ∙ offered_account q e ∙ ap (λ a. (a, as_account (offer_to q e))) (sym put.answer))) in
+    (offer_to q e, step, offer_means b.rows m n t d e ∙ ap (λ a. (a, as_account (offer_to q e))) (sym put.answer))) in
     record { answer = c.unwrap_or.ensures ∙ all.0; left = all.1; outside = all.2 }

@@ -1,13 +1,11 @@
-use Rattle.std.proofs.Common.{◌≡◌, sym, ap, ◌∙◌, rules}
-use Rattle.std.proofs.lemmas.Bool.{cond-true}
+use Rattle.std.proofs.Common.{◌≡◌, ◌-◌, get_or, sym, ap, ◌∙◌, rules}
 use Rattle.std.specs.Option.{option_flatten}
 use Rattle.ring.specs.Queue.{oldest}
 use Rattle.queue_bank.specs.Queues.{take_from}
 use Rattle.queue_bank.specs.Account.{as_account}
 use Rattle.queue_bank.specs.Meaning.{queue_meaning, queue_laws}
 use Rattle.queue_bank.specs.Standing.{queues_of, Step}
-use Rattle.queue_bank.proofs.Accounts.{taken_account}
-use Rattle.queue_bank.proofs.Standings.{called_means}
+use Rattle.queue_bank.proofs.Standings.{take_means, called_means}
 use Rattle.queue_bank.proofs.QueueBankBank.take.Goals as goal
 
 pub returns : goal.returns
@@ -18,9 +16,10 @@ returns c =
     let n = c.args.channel in
     let all =
     called_means b.rows m n b'.rows.channels b'.memory.now option_flatten (queue_meaning.taken n) c.on_channel.result c.on_channel.ensures (queue_laws.no_take n)
-    (λ s x s' m' t k.
+    (λ d x s' m' t k.
+    let s = get_or b.rows.channels (n - 1) d in
     let q = queues_of m s in
     let answer : x ≡ oldest q.outgoing = search rules in
     let step : Step s m s' m' (take_from q) = search rules in
-    (take_from q, step, cond-true _ _ _ t ∙ taken_account q ∙ ap (λ a. (a, as_account (take_from q))) (sym answer))) in
+    (take_from q, step, take_means b.rows m n t d ∙ ap (λ a. (a, as_account (take_from q))) (sym answer))) in
     record { answer = c.flatten.ensures ∙ all.0; left = all.1; kept = search rules }
