@@ -55,6 +55,15 @@ module _ {T : Type 0} where
       at true t = (t, omega (arith, length_long r m t))
       at false t = absurd (omega (arith, length_short r m t))
 
+  -- and there the oldest stands within it
+  pub oldest_within : (r : Ring) (m : List T) → 0 < length (queue r m).waiting → (r.base + r.places ≤ length m) × (r.head < r.places)
+  oldest_within r m lt =
+      let some = some_wait r m lt in
+      let f = r.fits in
+      let i = r.inside in
+      let wait : 0 < r.waiting = some.1 in
+      (leb-true (r.base + r.places) (length m) some.0, omega arith)
+
   -- nothing waits
   pub queue_fresh : (r : Ring) (m : List T) → r.waiting ≡ 0 → queue r m ≡ empty (cond (reaches r (length m)) r.places 0)
   unfolding queue

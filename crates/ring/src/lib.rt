@@ -90,16 +90,18 @@ impl Ring {
     }
 
     /// Takes the oldest out.
+    #[tactic(auto, using(crate::proofs::Rings::oldest_within))]
     pub fn take<T: Copy>(&mut self, memory: &[T]) -> Option<T>
         ensures { Taken self.old memory.now result self.new }
     {
-        let x = *self.runs(memory).0.first()?;
+        let left = self.waiting(memory).checked_sub(1)?;
+        let x = memory[self.base + self.head];
         self.head = if self.head + 1 < self.places {
             self.head + 1
         } else {
             0
         };
-        self.waiting -= 1;
+        self.waiting = left;
         Some(x)
     }
 
@@ -121,10 +123,13 @@ impl Ring {
         ensures within { result ≤ self.now.places }
     {
         let (first, rest) = self.runs(memory);
-        first
-            .iter()
-            .chain(rest)
-            .filter(|x| x.code() == code)
-            .count()
+        count_in(first, code) + count_in(rest, code)
     }
+}
+
+// How many elements of a run have this code.
+fn count_in<T: Coded>(run: &[T], code: u16) -> usize
+    ensures { result ≡ count_by (λ x. nat_eq (T.coded x) code) run.now }
+{
+    run.iter().filter(|x| x.code() == code).count()
 }
