@@ -51,6 +51,7 @@ pub fn each_case<F: FnMut(&[String]) -> anyhow::Result<()>>(
 
 /// Takes the next line of a script, of which `lines` holds those of the case so far: where a case begins at it, that
 /// case is played first, and its lines go.
+#[tactic(auto, using(crate::proofs::Parting::cut_at))]
 pub fn add_line<F: FnMut(&[String]) -> anyhow::Result<()>>(
     lines: &mut Vec<String>,
     line: String,
