@@ -90,6 +90,7 @@ pub fn mode_at_end(lines: &[String]) -> Mode
 }
 
 /// The mode of a case in whose first line a word follows it, as `case NAME MODE START`.
+#[tactic(auto, using(std::proofs::lemmas::Str::Pattern::contains_text))]
 pub fn mode_between(lines: &[String]) -> Mode
     ensures { JustifiedWhere (HasSubslice (first_line lines.now) (codes " justified ")) result }
 {
