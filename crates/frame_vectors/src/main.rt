@@ -12,7 +12,7 @@ use frame::Mode;
 use frame::content::LONGEST;
 use pattern_bank::PatternBank;
 use queue_bank::{MEMORY, QueueBank};
-use script::number;
+use script::numbers;
 use station::Station;
 use std::alloc::{AllocError, Global};
 use std::env;
@@ -28,13 +28,16 @@ impl Command {
     // The command of a line, if it has one.
     fn parse(line: &str) -> Option<Command> {
         match line.split_once(' ')? {
-            ("offer", _) => Some(Command::Offer {
-                channel: number(line, 1),
-                envelope: Envelope {
-                    status: number(line, 2) == 1,
-                    octet: (number(line, 3) % 256) as u8,
-                },
-            }),
+            ("offer", _) => {
+                let [channel, status, octet] = numbers(line);
+                Some(Command::Offer {
+                    channel,
+                    envelope: Envelope {
+                        status: status == 1,
+                        octet: (octet % 256) as u8,
+                    },
+                })
+            }
             ("send", rest) => Some(Command::Send {
                 justification: rest.parse().unwrap_or(0),
             }),

@@ -1,3 +1,4 @@
 pub mod Busy
-pub mod Numbers
+pub mod Nexts
+pub mod Parsing
 pub mod Parting

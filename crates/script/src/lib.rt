@@ -9,4 +9,4 @@ mod words;
 pub use banks::with_bank;
 pub use cases::{add_line, each_case, mode_at_end, mode_between};
 pub use plans::{busy_plan, plan_of};
-pub use words::{number, word};
+pub use words::{number, numbers, word};

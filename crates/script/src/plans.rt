@@ -3,7 +3,7 @@ ghost use Rattle.std.specs.Prelude.{◌≡◌, ℕ, ◌+◌, ◌%◌, ◌<◌, m
 ghost use Rattle.channel_plan.specs.Tables.{owner_of};
 ghost use Rattle.script.specs.Plans.{Busy, table_of};
 
-use crate::words::{number, word};
+use crate::words::{numbers, word};
 use channel_plan::{Draft, Plan};
 
 /// The plan that the rows of a case make. A row that is refused is passed over.
@@ -14,7 +14,8 @@ pub fn plan_of(lines: &[String]) -> Plan
     for line in lines {
         let line = line.as_str();
         if word(line, 0) == Some("row") {
-            let _ = draft.add(number(line, 1), number(line, 2), number(line, 3));
+            let [channel, rate, first] = numbers(line);
+            let _ = draft.add(channel, rate, first);
         }
     }
     draft.seal()
