@@ -1,15 +1,14 @@
 -- The cases of a script, and what it is to play them.
-use Rattle.std.specs.Prelude.{◌≡◌, ◌≤◌, ℕ, Bool, cond, is_some, ◌&&◌, ◌⊎◌, List, [], ◌∷◌, ◌++◌, codes, Ok, Result, IsErr, String, string_bytes, Vec, vec_capacity, vec_len}
+use Rattle.std.specs.Prelude.{◌≡◌, ◌≤◌, ℕ, Bool, cond, ◌==◌, ◌⊎◌, List, [], ◌∷◌, ◌++◌, codes, Ok, Result, IsErr, String, string_bytes, Vec, vec_capacity, vec_len}
 use Rattle.std.specs.Fn.{CalledAt, Mut}
-use Rattle.std.specs.List.{onto_first}
+use Rattle.std.specs.List.{onto_first, starts_with}
 use denote.Ref.{Bor}
 use Rattle.frame.specs.declared.Mode.{Mode}
 use Rattle.frame.specs.declared.Mode.TheVariants.{Synchronous, Justified}
-use Rattle.script.specs.Words.{is_word, word_at}
 
--- a case begins at a line `case ..`, of two words or more
+-- a case begins at a line `case ..`
 unfoldable pub begins : {Z : Type 0} → String Z → Bool
-begins line = is_word (word_at (string_bytes line) 0) (codes "case") && is_some (word_at (string_bytes line) 1)
+begins line = starts_with (λ a b. a == b) (string_bytes line) (codes "case ")
 
 module _ {Z : Type 0} where
   -- a line in front of the cases of those after it

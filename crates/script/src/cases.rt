@@ -5,15 +5,14 @@ ghost use Rattle.std.specs.Option.{unwrap_or};
 ghost use Rattle.std.specs.Str.Iter.{HasSubslice};
 ghost use Rattle.script.specs.Cases.{Cut, EndsWith, JustifiedWhere, NotTaken, Plays, begins, cases, ended, first_line, kept};
 
-use crate::words::word;
 use frame::Mode;
 
 // Whether a case begins at the line.
-#[tactic(auto, unfolding(crate::specs::Cases::begins))]
+#[tactic(auto, using(std::proofs::lemmas::Str::Pattern::starts_text), unfolding(crate::specs::Cases::begins))]
 fn begins(line: &String) -> bool
     ensures { result ≡ begins line.now }
 {
-    word(line.as_str(), 0) == Some("case") && word(line.as_str(), 1).is_some()
+    line.as_str().starts_with("case ")
 }
 
 // How many lines come before the next case.
