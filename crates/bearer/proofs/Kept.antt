@@ -27,7 +27,7 @@ use Rattle.station.proofs.Counted.{records_none}
 use Rattle.station.proofs.Pieces.{in_two}
 use Rattle.bearer.specs.InStep.{Between, Channels, InStep, IsAlarm, Receives, StaysInStep}
 use Rattle.bearer.specs.Sent.{Allows, Sender, after_frame, after_frames, bits_sent, envelopes_sent}
-use Rattle.bearer.proofs.Clean.{Clean, carried, clean_laden, clean_rests, clean_shown, clean_stays, expected_next, resting}
+use Rattle.bearer.proofs.Clean.{CleanOf, carried, clean_laden, clean_rests, clean_shown, clean_some, clean_stays, expected_next, resting}
 use Rattle.bearer.proofs.Laden.{Valid, bare, check_front, laden, laden_word, own_remainder, progress_with, state_with, summed, sums_in, word_front}
 use Rattle.bearer.proofs.Records.{line_over}
 use Rattle.bearer.proofs.Runs.{frame_after, frame_remainder, frame_shown, leaves, receiver_after, shown}
@@ -52,7 +52,7 @@ module _ (mode : Mode) (c : Content) (v : Valid c) where
   pub record Received (x : Receiver) : Type 0 where
     pub bare_shown : List (Option Conclusion)
     pub shows : shown mode x (frame mode c) ≡ map (laden_word c) bare_shown
-    pub clean : Clean (λ k. 0) c.justification 0 bare_shown
+    pub clean : CleanOf (λ k. 0) c.justification 0 bare_shown
     pub between : Between (next_check mode (frame mode c)) (receiver_after mode x (frame mode c)).state
 
   pub received : (x : Receiver) → Allows mode c.justification → Between c.check x.state → Received x
@@ -114,8 +114,8 @@ module _ (m : Meaning) (owner : Owners) (known : Channels owner) (s : Sender) (r
   unfolding sent_frame
   all_slots =
       let got = frame_received in
-      slots m owner known s.accounts s.line.records so.sends j bits 0 r
-      (rw (so.mode, got.shows) (clean_laden c (word_at m owner s.accounts s.line.records) (word_is m owner s.accounts s.line) j 0 got.bare_shown got.clean))
+      slots m owner known s.accounts s.line.records so.sends bits 0 r
+      (rw (so.mode, got.shows) (clean_laden c (word_at m owner s.accounts s.line.records) (word_is m owner s.accounts s.line) 0 got.bare_shown (clean_some (λ k. 0) j got.bare_shown 0 got.clean)))
       (record { long = so.receives; bits = rw (records_none owner 1 s.line.records) so.bits })
 
   pub keeps_step : InStep (after_frame m owner s j).line (line_after owner r bits)

@@ -1,9 +1,10 @@
 -- The slots of a clean frame, one after another: given as they were sent, their alignment bits alternating.
-use Rattle.std.proofs.Common.{◌≡◌, ℕ, suc, ◌+◌, ◌-◌, ◌<◌, ◌≤◌, Bool, false, List, [], ◌∷◌, ◌++◌, length, IfSome, Some, None, Option, sym, refl, ap, ◌∙◌, subst, arith}
+use Rattle.std.proofs.Common.{◌≡◌, ℕ, suc, ◌+◌, ◌-◌, ◌<◌, ◌≤◌, Bool, false, List, [], ◌∷◌, ◌++◌, length, IfSome, IsSome, Some, None, Option, sym, refl, ap, ◌∙◌, subst, arith}
 use Rattle.std.specs.List.{range_with_len, AllByRecursion}
 use Rattle.std.specs.Option.{option_to_list}
 use Rattle.std.proofs.ByRecursion.{All-append}
 use Rattle.std.proofs.lemmas.List.{length-set}
+use Rattle.std.proofs.lemmas.Bool.{false≢true}
 use Rattle.std.proofs.lemmas.Grind.{elements}
 use Rattle.bank.specs.declared.Envelope.{Envelope}
 use Rattle.bank.specs.Meaning.{Accounts, Meaning}
@@ -23,7 +24,7 @@ use Rattle.station.specs.Sending.{Owners, or_filler, records_for, records_from, 
 use Rattle.station.proofs.Counted.{records_one, records_same}
 use Rattle.bearer.specs.InStep.{Alternates, Channels, IsAlarm}
 use Rattle.bearer.specs.Sent.{carried, gathered, sent_at, sent_by}
-use Rattle.bearer.proofs.Clean.{Clean, clean_le}
+use Rattle.bearer.proofs.Clean.{Clean, CleanWhere, clean_where_le}
 use Rattle.bearer.proofs.Records.{only_records}
 use Rattle.bearer.proofs.Runs.{shown}
 
@@ -92,23 +93,28 @@ module _ (m : Meaning) (owner : Owners) (known : Channels owner) (f : Accounts) 
   abbrev given_from : ℕ → List Delivery
   given_from k = gathered (sent_at m owner f) (range_with_len k (240 - k))
 
-  -- one conclusion of a clean frame, where slot k comes next
-  pub record Concluded (j : Justification) (k : ℕ) (l : Line) (c : Option Conclusion) (cs : List (Option Conclusion)) : Type 0 where
-    pub next : ℕ
-    pub rest : Clean word_of j next cs
-    pub synced : Synced next (concluded_line owner l c).records
-    pub quiet : AllByRecursion (λ x. IsAlarm x.kind) (option_to_list (concluded_event owner l c).fault)
-    pub given : option_to_list (concluded_event owner l c).given ++ given_from next ≡ given_from k
+  module _ (J : Option Justification → Type 0) where
+    -- one conclusion of a clean frame, where slot k comes next
+    pub record ConcludedWhere (k : ℕ) (l : Line) (c : Option Conclusion) (cs : List (Option Conclusion)) : Type 0 where
+      pub next : ℕ
+      pub rest : CleanWhere J word_of next cs
+      pub synced : Synced next (concluded_line owner l c).records
+      pub quiet : AllByRecursion (λ x. IsAlarm x.kind) (option_to_list (concluded_event owner l c).fault)
+      pub given : option_to_list (concluded_event owner l c).given ++ given_from next ≡ given_from k
 
-  step : (j : Justification) (k : ℕ) (l : Line) (c : Option Conclusion) (cs : List (Option Conclusion)) → Clean word_of j k (c ∷ cs) → Synced k l.records → Concluded j k l c cs
-  unfolding Clean gathered
-  step j k l None cs h s = record { next = k; rest = h; synced = s; quiet = tt; given = refl }
-  step j k l (Some (shows.Word i w)) cs h s =
-      let one = slot k l s in
-      let more : 240 - k ≡ suc (240 - (k + 1)) = omega (arith, clean_le word_of j cs (k + 1) h.1) in
-      rw (h.0.0, h.0.1) (record { next = k + 1; rest = h.1; synced = one.synced; quiet = rw (one.quiet) tt; given = rw (one.given, more) })
-  step j k l (Some (shows.Fault kind)) cs h s = record { next = k; rest = h.1; synced = rw (← alarm_past kind l.records h.0) s; quiet = (h.0, tt); given = refl }
-  step j k l (Some (shows.Justification told)) cs h s = rw (h.0) (record { next = k; rest = h.1; synced = s; quiet = tt; given = refl })
+    step : ((o : Option Justification) → J o → IsSome o) → (k : ℕ) (l : Line) (c : Option Conclusion) (cs : List (Option Conclusion)) → CleanWhere J word_of k (c ∷ cs) → Synced k l.records → ConcludedWhere k l c cs
+    unfolding CleanWhere gathered
+    step told k l None cs h s = record { next = k; rest = h; synced = s; quiet = tt; given = refl }
+    step told k l (Some (shows.Word i w)) cs h s =
+        let one = slot k l s in
+        let more : 240 - k ≡ suc (240 - (k + 1)) = omega (arith, clean_where_le J word_of cs (k + 1) h.1) in
+        rw (h.0.0, h.0.1) (record { next = k + 1; rest = h.1; synced = one.synced; quiet = rw (one.quiet) tt; given = rw (one.given, more) })
+    step told k l (Some (shows.Fault kind)) cs h s = record { next = k; rest = h.1; synced = rw (← alarm_past kind l.records h.0) s; quiet = (h.0, tt); given = refl }
+    step told k l (Some (shows.Justification (Some j))) cs h s = record { next = k; rest = h.1; synced = s; quiet = tt; given = refl }
+    step told k l (Some (shows.Justification None)) cs h s = absurd (false≢true (told None h.0))
+
+  abbrev pub Concluded : ℕ → Line → Option Conclusion → List (Option Conclusion) → Type 0
+  Concluded k l c cs = ConcludedWhere (λ told. IsSome told) k l c cs
 
   -- all that a clean frame leaves from slot k on
   pub record Slots (k : ℕ) (l : Line) (bs : List ℕ) : Type 0 where
@@ -116,13 +122,13 @@ module _ (m : Meaning) (owner : Owners) (known : Channels owner) (f : Accounts) 
     pub quiet : AllByRecursion (λ x. IsAlarm x.kind) (faults_in owner l bs)
     pub given : given owner l bs ≡ given_from k
 
-  pub slots : (j : Justification) (bs : List ℕ) (k : ℕ) (l : Line) → Clean word_of j k (shown l.mode l.receiver bs) → Synced k l.records → Slots k l bs
-  unfolding Clean shown line_after stepped_line events event parts gathered
-  slots j [] k l h s = record { synced = rw (← h) s; quiet = tt; given = rw h }
-  slots j (b ∷ bs) k l h s =
+  pub slots : (bs : List ℕ) (k : ℕ) (l : Line) → Clean word_of k (shown l.mode l.receiver bs) → Synced k l.records → Slots k l bs
+  unfolding CleanWhere shown line_after stepped_line events event parts gathered
+  slots [] k l h s = record { synced = rw (← h) s; quiet = tt; given = rw h }
+  slots (b ∷ bs) k l h s =
       let c = conclusion l.mode l.receiver b in
-      let here = step j k (heard_line owner l b) c (shown l.mode (stepped l.mode l.receiver b) bs) h s in
-      let rest = slots j bs here.next (stepped_line owner l b) (subst (λ (x : Line). Clean word_of j here.next (shown x.mode x.receiver bs)) (sym (only_records owner (heard_line owner l b) c)) here.rest) here.synced in
+      let here : Concluded k (heard_line owner l b) c (shown l.mode (stepped l.mode l.receiver b) bs) = step (λ told. IsSome told) (λ told h. h) k (heard_line owner l b) c (shown l.mode (stepped l.mode l.receiver b) bs) h s in
+      let rest = slots bs here.next (stepped_line owner l b) (subst (λ (x : Line). Clean word_of here.next (shown x.mode x.receiver bs)) (sym (only_records owner (heard_line owner l b) c)) here.rest) here.synced in
       record {
         synced = rest.synced;
         quiet = All-append (λ x. IsAlarm x.kind) (option_to_list (event owner l b).fault) (faults_in owner (stepped_line owner l b) bs) here.quiet rest.quiet;
