@@ -78,7 +78,7 @@ fn play_over<B: Bank + Drop>(
     bank: B,
     mut other: B,
 ) -> anyhow::Result<()> {
-    let plan = script::plan_of(lines);
+    let plan = script::parsed_plan_of(lines);
     let mut station = Station::placed(plan, bank, 1, script::mode_at_end(lines));
     for line in lines {
         rt.println(line.as_str())?;
@@ -132,5 +132,5 @@ fn main(rt: HostRuntime) -> anyhow::Result<()> {
     for line in input.lines(rt.alloc()) {
         script::add_line(&mut lines, line?, |case| play(&rt, case))?;
     }
-    script::each_case(&lines, |case| play(&rt, case))
+    script::each_named_case(&lines, |case| play(&rt, case))
 }

@@ -31,7 +31,7 @@ struct Sum {
 
 // A station as the first line of a case, `case NAME MODE START`, says.
 fn station_of<B: Bank>(lines: &[String], bank: B) -> Station<B> {
-    let plan = script::plan_of(lines);
+    let plan = script::parsed_plan_of(lines);
     let mode = script::mode_between(lines);
     match lines.first() {
         Some(line) if line.as_str().ends_with(" hunting") => Station::hunting(plan, bank, 1, mode),
@@ -210,5 +210,5 @@ fn main(rt: HostRuntime) -> anyhow::Result<()> {
     for line in input.lines(rt.alloc()) {
         script::add_line(&mut lines, line?, |case| play(&rt, case))?;
     }
-    script::each_case(&lines, |case| play(&rt, case))
+    script::each_named_case(&lines, |case| play(&rt, case))
 }

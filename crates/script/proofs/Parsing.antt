@@ -5,7 +5,7 @@ use Rattle.std.proofs.lemmas.Str.Parse.{numerals_by_value, tells_all_ascii_digit
 use Rattle.std.specs.Option.{unwrap_or}
 use Rattle.std.specs.Result.{result_ok}
 use Rattle.std.specs.Str.Parse.{IsNumeral, ParsesUnsigned, digits_value, without_leading_plus}
-use Rattle.script.specs.Words.{is_number, number_in}
+use Rattle.script.specs.Words.{is_number, parsed_in}
 
 abbrev Numeral : List ℕ → Type 0
 Numeral word = IsNumeral 10 (without_leading_plus word) × (digits_value 10 (without_leading_plus word) < 2 ^ 16)
@@ -22,6 +22,6 @@ meant word t =
     ((ltb-true _ _ parts.0, (numerals_by_value _ tells_all_ascii_digits).to _ others.0), ltb-true _ _ others.1)
 
 -- what is read in a word, or 0
-pub read : {E : Type 0} (word : List ℕ) (r : Result ℕ E) → ParsesUnsigned 16 10 word r → unwrap_or (result_ok r) 0 ≡ number_in (Some word)
+pub read : {E : Type 0} (word : List ℕ) (r : Result ℕ E) → ParsesUnsigned 16 10 word r → unwrap_or (result_ok r) 0 ≡ parsed_in (Some word)
 read word (Ok n) h = h.1 ∙ sym (cond-true (is_number word) _ _ (told word h.0))
 read word (Err e) h = sym (cond-false (is_number word) _ _ (false_from_ne_true _ (λ t. h (meant word t))))

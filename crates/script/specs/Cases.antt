@@ -5,33 +5,56 @@ use Rattle.std.specs.List.{onto_first, starts_with}
 use denote.Ref.{Bor}
 use Rattle.frame.specs.declared.Mode.{Mode}
 use Rattle.frame.specs.declared.Mode.TheVariants.{Synchronous, Justified}
+use Rattle.script.specs.Words.{is_word, word_at}
 
--- a case begins at a line `case ..`
+-- a case begins at a line whose first word is `case`
 unfoldable pub begins : {Z : Type 0} → String Z → Bool
-begins line = starts_with (λ a b. a == b) (string_bytes line) (codes "case ")
+begins line = is_word (word_at (string_bytes line) 0) (codes "case")
 
-module _ {Z : Type 0} where
+-- a named case begins at a line that starts with `case` and a space
+unfoldable pub begins_named : {Z : Type 0} → String Z → Bool
+begins_named line = starts_with (λ a b. a == b) (string_bytes line) (codes "case ")
+
+-- where a case begins at each line of which `starts` holds
+module _ {Z : Type 0} (starts : String Z → Bool) where
   -- a line in front of the cases of those after it
-  abbrev pub before : String Z → List (String Z) → List (List (String Z)) → List (List (String Z))
-  before line [] cs = (line ∷ []) ∷ []
-  before line (next ∷ lines) cs = cond (begins next) ((line ∷ []) ∷ cs) (onto_first line cs)
+  abbrev pub before_by : String Z → List (String Z) → List (List (String Z)) → List (List (String Z))
+  before_by line [] cs = (line ∷ []) ∷ []
+  before_by line (next ∷ lines) cs = cond (starts next) ((line ∷ []) ∷ cs) (onto_first line cs)
 
   -- the first case begins at the first line
-  abbrev pub cases : List (String Z) → List (List (String Z))
-  cases [] = []
-  cases (line ∷ lines) = before line lines (cases lines)
+  abbrev pub cases_by : List (String Z) → List (List (String Z))
+  cases_by [] = []
+  cases_by (line ∷ lines) = before_by line lines (cases_by lines)
 
-  -- the cases that end with the lines where the next line comes: all where a case begins at it, else none
+module _ {Z : Type 0} where
+  -- where a case begins at the word `case`
+  abbrev pub before : String Z → List (String Z) → List (List (String Z)) → List (List (String Z))
+  before line lines cs = before_by begins line lines cs
+
+  abbrev pub cases : List (String Z) → List (List (String Z))
+  cases lines = cases_by begins lines
+
+  -- the mode of a case whose first line is `case NAME MODE ..`
+  abbrev pub mode_of : List (String Z) → Mode
+  mode_of [] = Synchronous
+  mode_of (line ∷ lines) = cond (is_word (word_at (string_bytes line) 2) (codes "justified")) Justified Synchronous
+
+  -- where a case begins at `case` and a space
+  abbrev pub named_cases : List (String Z) → List (List (String Z))
+  named_cases lines = cases_by begins_named lines
+
+  -- the cases that end with the lines where the next line comes: all where a named case begins at it, else none
   abbrev pub ended : List (String Z) → String Z → List (List (String Z))
-  ended lines line = cond (begins line) (cases lines) []
+  ended lines line = cond (begins_named line) (named_cases lines) []
 
   -- the lines of the case that it belongs to
   abbrev pub kept : List (String Z) → String Z → List (String Z)
-  kept lines line = cond (begins line) [] lines
+  kept lines line = cond (begins_named line) [] lines
 
   -- whatever comes after the line, a script may be cut there: its cases are those that end, and then those of the lines kept and what comes
   abbrev pub Cut : List (String Z) → String Z → Type 0
-  Cut lines line = (after : List (String Z)) → cases (lines ++ line ∷ after) ≡ ended lines line ++ cases (kept lines line ++ line ∷ after)
+  Cut lines line = (after : List (String Z)) → named_cases (lines ++ line ∷ after) ≡ ended lines line ++ named_cases (kept lines line ++ line ∷ after)
 
   -- the bytes of the first line, if there is one
   abbrev pub first_line : List (String Z) → List ℕ

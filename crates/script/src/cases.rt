@@ -1,45 +1,46 @@
-// The cases of a script.
+// The cases of a script, cut at lines that start with `case` and a space, and their modes.
 ghost use Rattle.std.specs.Prelude.{◌≡◌, ◌<◌, [], ◌∷◌, ◌++◌, codes, length, IfSome, MatchOption, OnErr, OnOk};
 ghost use Rattle.std.specs.List.{position};
 ghost use Rattle.std.specs.Option.{unwrap_or};
 ghost use Rattle.std.specs.Str.Iter.{HasSubslice};
-ghost use Rattle.script.specs.Cases.{Cut, EndsWith, JustifiedWhere, NotTaken, Plays, begins, cases, ended, first_line, kept};
+ghost use Rattle.script.specs.Cases.{Cut, EndsWith, JustifiedWhere, NotTaken, Plays, begins_named, ended, first_line, kept, named_cases};
 
 use frame::Mode;
 
-// Whether a case begins at the line.
-#[tactic(auto, using(std::proofs::lemmas::Str::Pattern::starts_text), unfolding(crate::specs::Cases::begins))]
+// Whether a named case begins at the line.
+#[tactic(auto, using(std::proofs::lemmas::Str::Pattern::starts_text), unfolding(crate::specs::Cases::begins_named))]
 fn begins(line: &String) -> bool
-    ensures { result ≡ begins line.now }
+    ensures { result ≡ begins_named line.now }
 {
     line.as_str().starts_with("case ")
 }
 
 // How many lines come before the next case.
 fn before_next(lines: &[String]) -> usize
-    ensures { result ≡ unwrap_or (position begins lines.now) (length lines.now) }
+    ensures { result ≡ unwrap_or (position begins_named lines.now) (length lines.now) }
 {
     lines.iter().position(begins).unwrap_or(lines.len())
 }
 
 // The lines of the first case, and those after it.
 fn first_case(lines: &[String]) -> Option<(&[String], &[String])>
-    ensures cut { MatchOption result (cases lines.now ≡ []) (λ p. cases lines.now ≡ p.0.now ∷ cases p.1.now) }
+    ensures cut { MatchOption result (named_cases lines.now ≡ []) (λ p. named_cases lines.now ≡ p.0.now ∷ named_cases p.1.now) }
     ensures less { IfSome result (λ p. length p.1.now < length lines.now) }
 {
     let (_, rest) = lines.split_first()?;
     Some(lines.split_at(before_next(rest) + 1))
 }
 
-/// Calls a function with the lines of each case in turn, up to the first error.
-pub fn each_case<F: FnMut(&[String]) -> anyhow::Result<()>>(
+/// Calls a function with the lines of each case in turn, up to the first error. A case begins at the first line, and at
+/// each line that starts with `case` and a space.
+pub fn each_named_case<F: FnMut(&[String]) -> anyhow::Result<()>>(
     lines: &[String],
     mut play: F,
 ) -> anyhow::Result<()>
     requires { F.IsAlwaysCallable play }
-    ensures { Plays F.FnMut play (cases lines.now) result }
+    ensures { Plays F.FnMut play (named_cases lines.now) result }
 {
-    // The only walk over the cases: an iterator of its own would say the same in more lines.
+    // The walk over the cases: an iterator of its own would say the same in more lines.
     let mut rest = lines;
     while let Some((case, after)) = first_case(rest) {
         play(case)?;
@@ -63,7 +64,7 @@ pub fn add_line<F: FnMut(&[String]) -> anyhow::Result<()>>(
     ensures not_taken { OnErr result (NotTaken F.FnMut play lines.old line lines.new result) }
 {
     if begins(&line) {
-        each_case(lines, play)?;
+        each_named_case(lines, play)?;
         lines.clear();
     }
     lines.push(line)?;

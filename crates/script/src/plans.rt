@@ -1,14 +1,14 @@
 // The plans of cases.
 ghost use Rattle.std.specs.Prelude.{◌≡◌, ℕ, ◌+◌, ◌%◌, ◌<◌, map, string_bytes};
 ghost use Rattle.channel_plan.specs.Tables.{owner_of};
-ghost use Rattle.script.specs.Plans.{Busy, table_of};
+ghost use Rattle.script.specs.Plans.{Busy, parsed_table_of};
 
 use crate::words::{numbers, word};
 use channel_plan::{Draft, Plan};
 
-/// The plan that the rows of a case make. A row that is refused is passed over.
-pub fn plan_of(lines: &[String]) -> Plan
-    ensures { result.table.entries ≡ table_of (map string_bytes lines.now) }
+/// The plan that the rows of a case make, their numbers as `numbers` reads them. A row that is refused is passed over.
+pub fn parsed_plan_of(lines: &[String]) -> Plan
+    ensures { result.table.entries ≡ parsed_table_of (map string_bytes lines.now) }
 {
     let mut draft = Draft::new();
     for line in lines {

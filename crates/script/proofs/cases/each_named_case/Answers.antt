@@ -1,7 +1,7 @@
 use Rattle.std.proofs.Common.{inr}
 use Rattle.std.proofs.lemmas.Fn.{called_at}
 use Rattle.script.proofs.Parting.{is_that_err}
-use Rattle.script.proofs.cases.each_case.Goals as goal
+use Rattle.script.proofs.cases.each_named_case.Goals as goal
 
 pub returns-in_err-play : goal.returns-in_err-play
 returns-in_err-play g c =
